@@ -1,0 +1,20 @@
+use std::alloc::{AllocError, AllocFailed};
+use thiserror::Error;
+
+/// Want of memory: the allocator refused a growth. It is the one answer of the repository that no
+/// clause ties to a cause.
+#[derive(Clone, Copy, Debug, PartialEq, Eq, Error)]
+#[error("out of memory")]
+pub struct Memory;
+
+impl From<AllocError> for Memory {
+    fn from(_refused: AllocError) -> Memory {
+        Memory
+    }
+}
+
+impl<T: Drop> From<AllocFailed<T>> for Memory {
+    fn from(_refused: AllocFailed<T>) -> Memory {
+        Memory
+    }
+}
