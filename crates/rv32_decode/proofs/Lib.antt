@@ -1,0 +1,5 @@
+pub mod WordFields
+pub mod Immediates
+pub mod Operations
+pub mod TableLaws
+pub mod Joined
