@@ -1,0 +1,6 @@
+pub mod Forms
+pub mod Objects
+pub mod Numbers
+pub mod Lists
+pub mod Files
+pub mod Refusals
