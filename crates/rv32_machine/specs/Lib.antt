@@ -1,0 +1,4 @@
+pub mod Registers
+pub mod Execution
+pub mod Memory
+pub mod Steps
