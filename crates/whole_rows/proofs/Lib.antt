@@ -1,0 +1,9 @@
+pub mod Whole
+pub mod Sums
+pub mod Duality
+pub mod Verdicts
+pub mod Combinations
+pub mod Divisors
+pub mod Columns
+pub mod Dense
+pub mod Totals
