@@ -25,7 +25,7 @@ no_plus : (ds : List ℕ) → list_all (λ c. nat_lt (digit_value c) 16) ds ≡ 
 no_plus [] h = λ is. absurd (omega arith)
 no_plus (c ∷ cs) h = no_plus_in c (both _ _ h).0
 
-below : (ds : List ℕ) → list_all (λ c. nat_lt (digit_value c) 16) ds ≡ true → length ds ≤ 8 → digits_value 16 ds < 2 ^ 32
+pub below : (ds : List ℕ) → list_all (λ c. nat_lt (digit_value c) 16) ds ≡ true → length ds ≤ 8 → digits_value 16 ds < 2 ^ 32
 below ds h short =
     let small : 16 ^ length ds ≤ 16 ^ 8 = pow-le-pow_right (omega arith) short in
     omega (arith, digits_value-lt 16 ds (all_hexadecimal ds h))

@@ -1,14 +1,19 @@
 -- What the words on a JSON value promise: one value and one answer for the bytes, and numbers in their ranges.
-use Rattle.std.proofs.Common.{◌≡◌, ℕ, suc, ◌<◌, ◌≤◌, List, [], ◌∷◌, length, Option, Some, None, option_map, Result, refl, sym, ap, ◌∙◌, arith, inl, inr}
-use Rattle.std.specs.Prelude.{nat_le, nat_lt, option_and_then, ◌&&◌}
+use Rattle.std.proofs.Common.{Bool, true, false, cond, ◌^◌, ◌≡◌, ℕ, suc, subst, ◌<◌, ◌≤◌, List, [], ◌∷◌, length, Option, Some, None, option_map, Result, refl, sym, ap, ◌∙◌, arith, inl, inr}
+use Rattle.std.specs.Prelude.{codes, bytes_eq, take, drop, nat_le, nat_lt, option_and_then, ◌&&◌}
+use Rattle.std.specs.Char.{digit_value}
+use Rattle.std.specs.List.{list_all, AllByRecursion}
 use Rattle.std.proofs.lemmas.Bool.{leb-true, ltb-true}
+use Rattle.std.proofs.lemmas.List.{length-drop}
+use Rattle.json_fields.proofs.Addresses.{below}
 use Rattle.std.proofs.lemmas.Option.{option_and_then_some, cond_some}
 use Rattle.std.specs.Str.Parse.{digits_value}
 use Rattle.serde_json.specs.Data.{Data}
 use Rattle.serde_json.specs.Find.{as_number, as_str, as_u64}
 use Rattle.json_fields.specs.Files.{HasValue, Answers}
-use Rattle.json_fields.specs.Lists.{all_of}
-use Rattle.json_fields.specs.Numbers.{within, whole_in, is_digits, digits_below, digits_in}
+use Rattle.json_fields.specs.Forms.{◌>>=◌}
+use Rattle.json_fields.specs.Lists.{list_in, list_up_to, all_of}
+use Rattle.json_fields.specs.Numbers.{within, whole_in, is_digits, digits_below, digits_in, is_address, address_of, address_in}
 use Rattle.json_fields.proofs.Numerals.{both}
 
 pub one_value : (bytes : List ℕ) (d e : Data) → HasValue bytes d → HasValue bytes e → d ≡ e
@@ -48,3 +53,57 @@ length-all_of reads [] [] is = refl
 length-all_of reads [] (y ∷ ys) is = absurd cc
 length-all_of reads (x ∷ xs) ys is =
     option_and_then_some (λ y. option_map (λ more. y ∷ more) (all_of reads xs)) (reads x) ys is (λ y _ at. one_longer y (all_of reads xs) ys (length xs) at (λ zs found. length-all_of reads xs zs found))
+
+-- what came before a step that gave something
+pub bind_some : {A B : Type 0} (o : Option A) (next : A → Option B) (y : B) → (o >>= next) ≡ Some y → (x : A) × (o ≡ Some x) × (next x ≡ Some y)
+bind_some None next y is = absurd cc
+bind_some (Some x) next y is = (x, refl, is)
+
+pub and_then_some : {A B : Type 0} (o : Option A) (next : A → Option B) (y : B) → option_and_then next o ≡ Some y → (x : A) × (o ≡ Some x) × (next x ≡ Some y)
+and_then_some None next y is = absurd cc
+and_then_some (Some x) next y is = (x, refl, is)
+
+pub map_some : {A B : Type 0} (o : Option A) (f : A → B) (y : B) → option_map f o ≡ Some y → (x : A) × (o ≡ Some x) × (f x ≡ y)
+map_some None f y is = absurd cc
+map_some (Some x) f y is = (x, refl, cc)
+
+pub passed : {A : Type 0} (test : Bool) (o : Option A) (y : A) → cond test o None ≡ Some y → (test ≡ true) × (o ≡ Some y)
+passed true o y is = (refl, is)
+passed false o y is = absurd cc
+
+pub not_refused : {A : Type 0} (test : Bool) (o : Option A) (y : A) → cond test None o ≡ Some y → (test ≡ false) × (o ≡ Some y)
+not_refused true o y is = absurd cc
+not_refused false o y is = (refl, is)
+
+pub same_some : {A : Type 0} (x y : A) → Some x ≡ Some y → x ≡ y
+same_some x y is = cc
+
+pub all_of-all : {B : Type 0} (reads : Data → Option B) (P : B → Type 0) → ((d : Data) (y : B) → reads d ≡ Some y → P y) → (ds : List Data) (ys : List B) → all_of reads ds ≡ Some ys → AllByRecursion P ys
+all_of-all reads P each [] ys is = subst (AllByRecursion P) (same_some [] ys is) tt
+all_of-all reads P each (d ∷ ds) ys is =
+    let first = and_then_some (reads d) (λ y. option_map (λ more. y ∷ more) (all_of reads ds)) ys is in
+    let others = map_some (all_of reads ds) (λ more. first.0 ∷ more) ys first.2 in
+    subst (AllByRecursion P) others.2 (each d first.0 first.1, all_of-all reads P each ds others.0 others.1)
+
+address_of-lt : (text : List ℕ) (n : ℕ) → address_of text ≡ Some n → n < 2 ^ 32
+address_of-lt text n is =
+    let tests = cond_some (is_address text) (digits_value 16 (drop 2 text)) n is in
+    let prefix = bytes_eq (take 2 text) (codes "0x") && nat_lt 2 (length text) in
+    let last = both (prefix && nat_le (length text) 10) (list_all (λ c. nat_lt (digit_value c) 16) (drop 2 text)) tests.0 in
+    let few = both prefix (nat_le (length text) 10) last.0 in
+    let short : length (drop 2 text) ≤ 8 = omega (arith, length-drop 2 text, leb-true (length text) 10 few.1) in
+    omega (arith, below (drop 2 text) last.1 short, tests.1)
+
+-- an address is below 2^32
+pub address_in-lt : (d : Data) (n : ℕ) → address_in d ≡ Some n → n < 2 ^ 32
+address_in-lt d n is =
+    option_and_then_some address_of (as_str d) n is (λ text _ at. address_of-lt text n at)
+
+short : (most : ℕ) (found ds : List Data) → cond (nat_le (length found) most) (Some found) None ≡ Some ds → length ds ≤ most
+short most found ds at =
+    let test = cond_some (nat_le (length found) most) found ds at in
+    omega (arith, leb-true (length found) most test.0, ap length test.1)
+
+pub list_up_to-length : (most : ℕ) (d : Data) (ds : List Data) → list_up_to most d ≡ Some ds → length ds ≤ most
+list_up_to-length most d ds is =
+    option_and_then_some (λ found. cond (nat_le (length found) most) (Some found) None) (list_in d) ds is (λ found _ at. short most found ds at)

@@ -18,7 +18,7 @@ pub all_of-each_from : {B : Type 0} (reads : Data → Option B) (place : ℕ) (d
 all_of-each_from reads place [] = refl
 all_of-each_from reads place (d ∷ ds) = rw (all_of-each_from reads (suc place) ds) refl
 
-one_more : {B : Type 0} (front : List B) (y : B) (rest : Option (List B)) → with_front front (option_map (λ ys. y ∷ ys) rest) ≡ with_front (front ++ y ∷ []) rest
+pub one_more : {B : Type 0} (front : List B) (y : B) (rest : Option (List B)) → with_front front (option_map (λ ys. y ∷ ys) rest) ≡ with_front (front ++ y ∷ []) rest
 one_more front y None = refl
 one_more front y (Some ys) = ap Some (sym (append_assoc front (y ∷ []) ys))
 

@@ -1,0 +1,5 @@
+pub mod Faults
+pub mod States
+pub mod Certificate
+pub mod Answers
+pub mod Fits

@@ -1,0 +1,9 @@
+pub mod Names
+pub mod TableLemmas
+pub mod NameEnds
+pub mod SpanLemmas
+pub mod Verdict
+pub mod PlainLemmas
+pub mod Fields
+pub mod PlainImage
+pub mod PlainSymbols

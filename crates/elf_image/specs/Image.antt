@@ -1,0 +1,75 @@
+-- What an image is: where its code lies, what memory holds before the first step, and its symbols.
+-- All addresses are byte addresses; a code word is four bytes at a multiple of four.
+use Rattle.std.specs.Prelude.{◌≡◌, ℕ, ◌+◌, ◌-◌, ◌%◌, Bool, ◌&&◌, ◌==◌, not, nat_lt, nat_le, bytes_eq, List, [], ◌∷◌, slice_index, drop, take_while, Option, Some, None, unwrap_or, Result, Ok, Err, if◌then◌else◌}
+use Rattle.std.specs.List.{list_any}
+use Rattle.byteorder.specs.Endian.{little_number}
+use Rattle.elf_image.specs.declared.image.Section.{Section}
+use Rattle.elf_image.specs.declared.image.Segment.{Segment}
+use Rattle.elf_image.specs.declared.symbol.Symbol.{Symbol}
+use Rattle.elf_image.specs.declared.symbol.Entry.{Entry}
+use Rattle.elf_image.specs.declared.fault.ElfFault.{ElfFault}
+use Rattle.elf_image.specs.declared.fault.ElfFault.TheVariants as fault
+use Rattle.elf_image.specs.declared.fault.ElfKind.{ElfKind}
+
+-- An image as contracts see it.
+pub record ImageData : Type 0 where
+  pub code : List Section
+  pub memory : List Segment
+  pub symbols : List Symbol
+
+-- whether the segment loads a byte at the address
+abbrev pub covers : Segment → ℕ → Bool
+covers segment address = nat_le segment.address address && nat_lt address (segment.address + segment.size)
+
+-- the byte that the segment loads there: the given one, and zero past the given ones
+abbrev pub byte_in : Segment → ℕ → ℕ
+byte_in segment address = slice_index segment.bytes (address - segment.address)
+
+-- The byte that memory holds at first at the address; none where nothing is loaded.
+abbrev pub initial_byte : List Segment → ℕ → Option ℕ
+initial_byte [] address = None
+initial_byte (segment ∷ others) address =
+    if covers segment address then Some (byte_in segment address) else initial_byte others address
+
+-- whether the four bytes from the address on lie in the section
+abbrev pub holds_word : ℕ → Section → Bool
+holds_word address section = nat_le section.address address && nat_le (address + 4) (section.address + section.size)
+
+-- whether a code word stands at the address
+abbrev pub has_word : List Section → ℕ → Bool
+has_word code address = (address % 4 == 0) && list_any (holds_word address) code
+
+-- the four bytes of memory from the address on, as one number, the lowest byte first
+abbrev pub word_in : List Segment → ℕ → ℕ
+word_in memory address =
+    little_number 4
+    (unwrap_or (initial_byte memory address) 0 ∷ unwrap_or (initial_byte memory (address + 1)) 0
+    ∷ unwrap_or (initial_byte memory (address + 2)) 0 ∷ unwrap_or (initial_byte memory (address + 3)) 0 ∷ [])
+
+-- The code word at the address: none where the address is no multiple of four, or its four bytes
+-- don't lie in one code section.
+abbrev pub word_at : ImageData → ℕ → Option ℕ
+word_at image address = if has_word image.code address then Some (word_in image.memory address) else None
+
+-- The value of the first symbol of that name.
+abbrev pub value_of : List Symbol → List ℕ → Option ℕ
+value_of [] name = None
+value_of (symbol ∷ others) name = if bytes_eq symbol.name name then Some symbol.value else value_of others name
+
+abbrev pub symbol_of : ImageData → List ℕ → Option ℕ
+symbol_of image name = value_of image.symbols name
+
+-- the name that begins at that place of a table of names, each of which ends before a zero byte
+abbrev pub name_at : List ℕ → ℕ → List ℕ
+name_at names place = take_while (λ byte. not (byte == 0)) (drop place names)
+
+-- the symbol of an entry, whose name stands in the table of names
+abbrev pub symbol_in : List ℕ → Entry → Symbol
+symbol_in names entry = record { name = name_at names entry.place; value = entry.value }
+
+-- What a reader answered is what its definition says: the image, or the kind of the fault. Want of
+-- memory alone is free.
+abbrev pub Gives : Result ImageData ElfFault → Result ImageData ElfKind → Type 0
+Gives (Ok image) judged = judged ≡ Ok image
+Gives (Err fault.Memory) judged = Unit {0}
+Gives (Err (fault.Kind kind)) judged = judged ≡ Err kind

@@ -1,0 +1,25 @@
+//! Program images: 32-bit RISC-V ELF files and flat images, as code words, initial memory and
+//! symbols.
+#![tactic(auto)]
+
+mod elf;
+mod fault;
+mod flat_image;
+mod headers;
+mod image;
+mod plain;
+mod ranges;
+mod spans;
+mod symbol;
+mod tables;
+
+pub use elf::read_elf;
+pub use fault::{ElfFault, ElfKind};
+pub use flat_image::flat;
+pub use image::{Image, Section, Segment};
+pub use listed::Memory;
+pub use plain::plain_elf;
+pub use symbol::{Bytes, Name, Symbol, Symbols};
+
+#[cfg(test)]
+mod tests;

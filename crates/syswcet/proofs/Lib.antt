@@ -1,0 +1,4 @@
+pub mod Pieces
+pub mod CheckLoneLaws
+pub mod RunLaws
+pub mod ReadLaws

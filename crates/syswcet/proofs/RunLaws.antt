@@ -1,0 +1,69 @@
+-- How a call ends, by its answer and what became of its text.
+use Rattle.std.proofs.Common.{◌≡◌, ℕ, List, Option, Some, None, inl, inr, sym, ◌∙◌, ap, subst}
+use Rattle.wcet_io.specs.Causes.{Rose}
+use Rattle.wcet_io.specs.Sink.{appended}
+use Rattle.syswcet.specs.declared.status.Status.{Status}
+use Rattle.syswcet.specs.declared.status.Status.TheVariants as status
+use Rattle.syswcet.specs.declared.words.Command.{Command}
+use Rattle.syswcet.specs.declared.words.Command.TheVariants.{CheckLone}
+use Rattle.syswcet.specs.Reports.{AnswerData, words_answer, read_answer}
+use Rattle.syswcet.specs.Words.{command_of, word}
+use Rattle.syswcet.specs.CheckLone.{IsCheckLoneAnswer}
+use Rattle.syswcet.specs.Run.{Reads, HasAnswer, IsCommandAnswer, Writing, LeavesPrefix, Ends, YesBounds}
+use Rattle.syswcet.proofs.CheckLoneLaws.{IsOwn, own_as, own_check_lone, YesAnswer, yes_check_lone}
+
+own_command : (told : List ℕ → Option (List ℕ)) (words : List (List ℕ)) (command : Option Command) (made : AnswerData) → IsCommandAnswer told words command made → IsOwn made.status
+own_command told words None made is = own_as made words_answer is tt
+own_command told words (Some CheckLone) made is = own_check_lone told (word words 2) (word words 3) made is
+
+own_answer : (reads : Reads) (words : List (List ℕ)) (made : AnswerData) → HasAnswer reads words made → IsOwn made.status
+own_answer reads words made (inl fault) = own_as made (read_answer fault.name) fault.text tt
+own_answer reads words made (inr is) = own_command reads.told words (command_of words) made is.1
+
+ends_with : (reads : Reads) (writing : Writing) (words : List (List ℕ)) (made : AnswerData) (s : Status) → HasAnswer reads words made
+    → writing.holds ≡ appended writing.held made.text → made.status ≡ s → IsOwn s → Ends reads writing words s
+ends_with reads writing words made status.Ok has whole same own = (made, has, same, whole)
+ends_with reads writing words made status.No has whole same own = (made, has, same, whole)
+ends_with reads writing words made status.Words has whole same own = (made, has, same, whole)
+ends_with reads writing words made status.Input has whole same own = (made, has, same, whole)
+ends_with reads writing words made status.Unbounded has whole same own = (made, has, same, whole)
+ends_with reads writing words made status.Budget has whole same own = (made, has, same, whole)
+ends_with reads writing words made status.Wide has whole same own = (made, has, same, whole)
+ends_with reads writing words made status.Misuse has whole same own = (made, has, same, whole)
+ends_with reads writing words made status.ReadFault has whole same own = (made, has, same, whole)
+ends_with reads writing words made status.NotDeclared has whole same own = (made, has, same, whole)
+ends_with reads writing words made status.WriteFault has whole same own = absurd own
+ends_with reads writing words made status.Memory has whole same own = absurd own
+
+-- the whole text was written
+pub ends_whole : (reads : Reads) (writing : Writing) (words : List (List ℕ)) (made : AnswerData) (s : Status) → HasAnswer reads words made
+    → writing.holds ≡ appended writing.held made.text → s ≡ made.status → Ends reads writing words s
+ends_whole reads writing words made s has whole same =
+    ends_with reads writing words made s has whole (sym same) (subst IsOwn (sym same) (own_answer reads words made has))
+
+-- a write failed
+pub ends_failed : (reads : Reads) (writing : Writing) (words : List (List ℕ)) (made : AnswerData) → HasAnswer reads words made
+    → Rose writing.before writing.after → LeavesPrefix writing made → Ends reads writing words status.WriteFault
+ends_failed reads writing words made has rose left = (rose, (made, has, left))
+
+-- the sink wanted memory
+pub ends_short : (reads : Reads) (writing : Writing) (words : List (List ℕ)) (made : AnswerData) → HasAnswer reads words made
+    → LeavesPrefix writing made → Ends reads writing words status.Memory
+ends_short reads writing words made has left = inr (made, has, left)
+
+yes_command : (reads : Reads) (writing : Writing) (words : List (List ℕ)) (made : AnswerData) (command : Option Command) → command ≡ Some CheckLone
+    → IsCommandAnswer reads.told words command made → writing.holds ≡ appended writing.held made.text → made.status ≡ status.Ok
+    → YesBounds reads writing (word words 2)
+yes_command reads writing words made command is_command is whole ok =
+    let check : IsCheckLoneAnswer reads.told (word words 2) (word words 3) made = subst (λ (c : Option Command). IsCommandAnswer reads.told words c made) is_command is in
+    let yes : YesAnswer (reads.told (word words 2)) made = yes_check_lone reads.told (word words 2) (word words 3) made check ok in
+    (yes.bound, whole ∙ ap (appended writing.held) yes.text, yes.bounds)
+
+-- status Ok of `check lone`
+pub bounds_whole : (reads : Reads) (writing : Writing) (words : List (List ℕ)) (made : AnswerData) → HasAnswer reads words made
+    → writing.holds ≡ appended writing.held made.text → made.status ≡ status.Ok → command_of words ≡ Some CheckLone
+    → YesBounds reads writing (word words 2)
+bounds_whole reads writing words made (inl fault) whole ok is_command =
+    let wrong : status.ReadFault ≡ status.Ok = sym (ap (λ (x : AnswerData). x.status) fault.text) ∙ ok in
+    absurd (cc)
+bounds_whole reads writing words made (inr is) whole ok is_command = yes_command reads writing words made (command_of words) is_command is.1 whole ok

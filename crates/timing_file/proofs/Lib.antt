@@ -1,0 +1,5 @@
+pub mod Forms
+pub mod Numbers
+pub mod Bounds
+pub mod Laws
+pub mod Names

@@ -1,0 +1,155 @@
+//! Which keys stand in a timing file.
+
+ghost use Rattle.std.specs.Prelude.{◌≡◌};
+ghost use Rattle.std.specs.List.{list_all};
+ghost use Rattle.serde_json.specs.View.{view};
+ghost use Rattle.json_fields.specs.Objects as objects;
+ghost use Rattle.timing_file.specs.Form as words;
+
+use json_fields::{has_exactly, has_keys, list_in, whole_in};
+use serde_json::Value;
+
+/// Whether each key stands that the file's version asks for, and no other than it allows.
+pub(crate) fn has_known_keys(value: &Value) -> bool
+    ensures { result ≡ words.has_known_keys (view value.now) }
+{
+    has_keys_of(value, is_later(value))
+        && range_keys_at(value, "loops", "bound")
+        && range_keys_at(value, "extra", "cycles")
+}
+
+/// Whether the file is of version 2.
+fn is_later(value: &Value) -> bool
+    ensures { result ≡ words.is_later (view value.now) }
+{
+    match value.get("version") {
+        Some(version) => whole_in(version, 2, 2).is_some(),
+        None => false,
+    }
+}
+
+fn has_keys_of(value: &Value, later: bool) -> bool
+    ensures { result ≡ words.has_keys_of later (view value.now) }
+{
+    if later {
+        has_later_keys(value)
+    } else {
+        has_first_keys(value)
+    }
+}
+
+fn has_first_keys(value: &Value) -> bool
+    ensures { result ≡ words.has_first_keys (view value.now) }
+{
+    has_keys(
+        value,
+        &["version", "classes", "services", "alarm", "interrupt"],
+        &["ticks", "distances", "loops"],
+    ) && costs_at(
+        value,
+        "classes",
+        &[
+            "alu", "mul", "div", "load", "store", "branch", "jump", "fence",
+        ],
+    ) && costs_at(
+        value,
+        "services",
+        &[
+            "ActivateTask",
+            "TerminateTask",
+            "ChainTask",
+            "GetResource",
+            "ReleaseResource",
+            "DisableAllInterrupts",
+            "EnableAllInterrupts",
+            "SuspendAllInterrupts",
+            "ResumeAllInterrupts",
+            "SuspendOSInterrupts",
+            "ResumeOSInterrupts",
+            "EndISR",
+        ],
+    )
+}
+
+fn has_later_keys(value: &Value) -> bool
+    ensures { result ≡ words.has_later_keys (view value.now) }
+{
+    has_keys(
+        value,
+        &["version", "classes", "services", "alarm", "interrupt"],
+        &["extra", "ticks", "distances", "loops"],
+    ) && costs_at(
+        value,
+        "classes",
+        &[
+            "branch_taken",
+            "alu",
+            "mul",
+            "div",
+            "load",
+            "store",
+            "branch",
+            "jump",
+            "fence",
+        ],
+    ) && costs_at(
+        value,
+        "services",
+        &[
+            "Schedule",
+            "ActivateTask",
+            "TerminateTask",
+            "ChainTask",
+            "GetResource",
+            "ReleaseResource",
+            "DisableAllInterrupts",
+            "EnableAllInterrupts",
+            "SuspendAllInterrupts",
+            "ResumeAllInterrupts",
+            "SuspendOSInterrupts",
+            "ResumeOSInterrupts",
+            "EndISR",
+        ],
+    )
+}
+
+fn costs_at(value: &Value, key: &str, optional: &[&str]) -> bool
+    ensures { result ≡ words.passes_at
+        (objects.has_keys words.default_key (objects.texts optional.now))
+        (view value.now) key.now }
+{
+    match value.get(key) {
+        Some(table) => has_keys(table, &["default"], optional),
+        None => true,
+    }
+}
+
+fn range_keys_at(value: &Value, list: &str, key: &str) -> bool
+    ensures { result ≡ words.passes_at (words.has_range_keys key.now) (view value.now) list.now }
+{
+    match value.get(list) {
+        Some(ranges) => has_range_keys(ranges, key),
+        None => true,
+    }
+}
+
+fn has_range_keys(value: &Value, key: &str) -> bool
+    ensures { result ≡ words.has_range_keys key.now (view value.now) }
+{
+    match list_in(value) {
+        Some(ranges) => are_keyed(ranges, key),
+        None => false,
+    }
+}
+
+fn are_keyed(ranges: &[Value], key: &str) -> bool
+    ensures { result ≡ list_all (λ v. words.is_keyed key.now (view v)) ranges.now }
+{
+    ranges.iter().all(|range| is_keyed(range, key))
+}
+
+fn is_keyed(range: &Value, key: &str) -> bool
+    ensures { result ≡ words.is_keyed key.now (view range.now) }
+{
+    has_exactly(range, &["from", "to", key])
+}
