@@ -1,6 +1,6 @@
 -- The lone machine: one task on a processor that it shares with nobody. It is activated at moment 0, at
 -- address 0 and with any registers, executes the code words of an image, and ends by TerminateTask.
-use Rattle.std.specs.Prelude.{◌≡◌, ℕ, ◌+◌, ◌≤◌, ◌==◌, List, [], ◌∷◌, Option, Some, if◌then◌else◌}
+use Rattle.std.specs.Prelude.{◌≡◌, ℕ, ◌+◌, ◌≤◌, ◌==◌, List, [], ◌∷◌, ℤ, pos, Option, Some, if◌then◌else◌}
 use Rattle.std.specs.Option.{option_map}
 use Rattle.elf_image.specs.Image.{ImageData, word_at, initial_byte}
 use Rattle.rv32_decode.specs.declared.instruction.Insn.{Insn}
@@ -116,3 +116,7 @@ lasting state = lasting_to state.moment state.task
 -- In every run over the image that keeps the costs, the activation lasts at most so many cycles.
 abbrev pub LastsAtMost : ImageData → ℕ → Type 0
 LastsAtMost image bound = (events : List Event) (state : LoneState) → IsLoneRun image events state → KeepsCosts events → lasting state ≤ bound
+
+-- The same for a whole number, which is no negative one.
+abbrev pub BoundsRuns : ImageData → ℤ → Type 0
+BoundsRuns image bound = (n : ℕ) × (bound ≡ pos n) × LastsAtMost image n

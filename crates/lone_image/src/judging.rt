@@ -1,11 +1,13 @@
 //! The verdict on a certificate of a forward image, and what the verdict means.
-ghost use Rattle.std.specs.Prelude.{◌≡◌, ℕ, ◌^◌, ◌<◌, IfOk};
+ghost use Rattle.std.specs.Prelude.{◌≡◌, ℕ, ℤ, ◌^◌, ◌<◌, IfOk};
 ghost use Rattle.elf_image.specs.Image.{ImageData};
 ghost use Rattle.certificate.specs.Fits.{IsLawful};
 ghost use Rattle.certificate.specs.declared.cert.Cert.{Cert as CertData};
 ghost use Rattle.lone_image.specs.Forward.{IsForward};
 ghost use Rattle.lone_image.specs.LoneStates.{lone_rules};
-ghost use Rattle.lone_image.specs.LoneMachine.{LastsAtMost};
+ghost use Rattle.lone_image.specs.LoneMachine.{LastsAtMost, BoundsRuns};
+ghost use Rattle.lone_image.specs.LoneRows.{lone_rows};
+ghost use Rattle.whole_rows.specs.Greatest.{IsGreatest};
 ghost use Rattle.lone_image.specs.Verdict.{dual_verdict, verdict_of};
 
 use crate::rows::lone_rows;
@@ -53,4 +55,12 @@ fn verdict_on(duals: DualVerdict) -> Verdict
 pub fn good_certificates_bound_runs()
     ensures { (image : ImageData) (count : ℕ) (cert : CertData)
         → IsForward image count → verdict_of count cert ≡ Verdict.Yes → LastsAtMost image cert.bound }
+{}
+
+/// The bound theorem for the greatest value: the activation lasts at most the greatest value of the
+/// rows, rounded down, in cycles, in every run of the lone machine over a forward image that keeps the
+/// costs, ended or not.
+pub fn greatest_value_bounds_runs()
+    ensures { (image : ImageData) (count : ℕ) (bound : ℤ)
+        → IsForward image count → IsGreatest (lone_rows count) bound → BoundsRuns image bound }
 {}
