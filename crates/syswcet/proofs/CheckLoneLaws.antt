@@ -19,8 +19,9 @@ use Rattle.syswcet.specs.CheckLone.{Holds, image_limit, yes_text, verdict_answer
 
 -- ---- the statuses that an answer has
 
--- a status that isn't of a refused write or of memory
+-- a status that isn't of a failed read, of a refused write or of memory
 abbrev pub IsOwn : Status → Type 0
+IsOwn status.ReadFault = ⊥
 IsOwn status.WriteFault = ⊥
 IsOwn status.Memory = ⊥
 IsOwn _ = Unit {0}

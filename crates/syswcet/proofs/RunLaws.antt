@@ -6,22 +6,42 @@ use Rattle.syswcet.specs.declared.status.Status.{Status}
 use Rattle.syswcet.specs.declared.status.Status.TheVariants as status
 use Rattle.syswcet.specs.declared.words.Command.{Command}
 use Rattle.syswcet.specs.declared.words.Command.TheVariants.{CheckLone}
-use Rattle.syswcet.specs.Reports.{AnswerData, words_answer, read_answer}
+use Rattle.syswcet.specs.Reports.{AnswerData, words_answer}
 use Rattle.syswcet.specs.Words.{command_of, word}
 use Rattle.syswcet.specs.CheckLone.{IsCheckLoneAnswer}
-use Rattle.syswcet.specs.Run.{Reads, HasAnswer, IsCommandAnswer, Writing, LeavesPrefix, Ends, YesBounds}
+use Rattle.syswcet.specs.Run.{Reads, HasAnswer, IsCommandAnswer, Writing, Ends, YesBounds}
 use Rattle.syswcet.proofs.CheckLoneLaws.{IsOwn, own_as, own_check_lone, YesAnswer, yes_check_lone}
 
 own_command : (told : List ℕ → Option (List ℕ)) (words : List (List ℕ)) (command : Option Command) (made : AnswerData) → IsCommandAnswer told words command made → IsOwn made.status
 own_command told words None made is = own_as made words_answer is tt
 own_command told words (Some CheckLone) made is = own_check_lone told (word words 2) (word words 3) made is
 
-own_answer : (reads : Reads) (words : List (List ℕ)) (made : AnswerData) → HasAnswer reads words made → IsOwn made.status
-own_answer reads words made (inl fault) = own_as made (read_answer fault.name) fault.text tt
-own_answer reads words made (inr is) = own_command reads.told words (command_of words) made is.1
+-- a status with which the whole text is written
+abbrev IsWritten : Status → Type 0
+IsWritten status.WriteFault = ⊥
+IsWritten status.Memory = ⊥
+IsWritten _ = Unit {0}
+
+written_own : (s : Status) → IsOwn s → IsWritten s
+written_own status.Ok own = tt
+written_own status.No own = tt
+written_own status.Words own = tt
+written_own status.Input own = tt
+written_own status.Unbounded own = tt
+written_own status.Budget own = tt
+written_own status.Wide own = tt
+written_own status.Misuse own = tt
+written_own status.NotDeclared own = tt
+written_own status.ReadFault own = absurd own
+written_own status.WriteFault own = absurd own
+written_own status.Memory own = absurd own
+
+written_answer : (reads : Reads) (words : List (List ℕ)) (made : AnswerData) → HasAnswer reads words made → IsWritten made.status
+written_answer reads words made (inl fault) = subst (λ (x : AnswerData). IsWritten x.status) (sym fault.text) tt
+written_answer reads words made (inr is) = written_own made.status (own_command reads.told words (command_of words) made is.1)
 
 ends_with : (reads : Reads) (writing : Writing) (words : List (List ℕ)) (made : AnswerData) (s : Status) → HasAnswer reads words made
-    → writing.holds ≡ appended writing.held made.text → made.status ≡ s → IsOwn s → Ends reads writing words s
+    → writing.holds ≡ appended writing.held made.text → made.status ≡ s → IsWritten s → Ends reads writing words s
 ends_with reads writing words made status.Ok has whole same own = (made, has, same, whole)
 ends_with reads writing words made status.No has whole same own = (made, has, same, whole)
 ends_with reads writing words made status.Words has whole same own = (made, has, same, whole)
@@ -39,17 +59,7 @@ ends_with reads writing words made status.Memory has whole same own = absurd own
 pub ends_whole : (reads : Reads) (writing : Writing) (words : List (List ℕ)) (made : AnswerData) (s : Status) → HasAnswer reads words made
     → writing.holds ≡ appended writing.held made.text → s ≡ made.status → Ends reads writing words s
 ends_whole reads writing words made s has whole same =
-    ends_with reads writing words made s has whole (sym same) (subst IsOwn (sym same) (own_answer reads words made has))
-
--- a write failed
-pub ends_failed : (reads : Reads) (writing : Writing) (words : List (List ℕ)) (made : AnswerData) → HasAnswer reads words made
-    → Rose writing.before writing.after → LeavesPrefix writing made → Ends reads writing words status.WriteFault
-ends_failed reads writing words made has rose left = (rose, (made, has, left))
-
--- the sink wanted memory
-pub ends_short : (reads : Reads) (writing : Writing) (words : List (List ℕ)) (made : AnswerData) → HasAnswer reads words made
-    → LeavesPrefix writing made → Ends reads writing words status.Memory
-ends_short reads writing words made has left = inr (made, has, left)
+    ends_with reads writing words made s has whole (sym same) (subst IsWritten (sym same) (written_answer reads words made has))
 
 yes_command : (reads : Reads) (writing : Writing) (words : List (List ℕ)) (made : AnswerData) (command : Option Command) → command ≡ Some CheckLone
     → IsCommandAnswer reads.told words command made → writing.holds ≡ appended writing.held made.text → made.status ≡ status.Ok
@@ -67,3 +77,14 @@ bounds_whole reads writing words made (inl fault) whole ok is_command =
     let wrong : status.ReadFault ≡ status.Ok = sym (ap (λ (x : AnswerData). x.status) fault.text) ∙ ok in
     absurd (cc)
 bounds_whole reads writing words made (inr is) whole ok is_command = yes_command reads writing words made (command_of words) is_command is.1 whole ok
+
+-- ---- faults rose where they are answered
+
+-- status ReadFault comes only where the count of faults of reads rose
+pub read_rose : (reads : Reads) (words : List (List ℕ)) (made : AnswerData) → HasAnswer reads words made → made.status ≡ status.ReadFault → Rose reads.before reads.after
+read_rose reads words made (inl fault) same = fault.rose
+read_rose reads words made (inr is) same = absurd (subst IsOwn same (own_command reads.told words (command_of words) made is.1))
+
+-- and an answer has no status of a refused write
+pub not_write_fault : (reads : Reads) (words : List (List ℕ)) (made : AnswerData) → HasAnswer reads words made → made.status ≡ status.WriteFault → ⊥
+not_write_fault reads words made has same = subst IsWritten same (written_answer reads words made has)

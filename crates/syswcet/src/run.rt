@@ -1,5 +1,6 @@
 //! The top call: words, files and a sink in, a status out.
-ghost use Rattle.std.specs.Prelude.{◌≡◌, ℕ, List, Ok, Some, IfOk};
+ghost use Rattle.std.specs.Prelude.{◌≡◌, ◌≢◌, ℕ, List, Ok, Some, IfOk};
+ghost use Rattle.wcet_io.specs.Causes.{Rose};
 ghost use Rattle.syswcet.specs.Words.{command_of, word};
 ghost use Rattle.syswcet.specs.Run.{HasAnswer, Ends, YesBounds};
 
@@ -10,7 +11,7 @@ use crate::status::Status;
 use crate::words::{Command, command_of};
 use listed::Memory;
 use std::alloc::Global;
-use wcet_io::{Files, Sink, SinkFault, Words};
+use wcet_io::{Files, Sink, SinkFault, SureFiles, SureSink, Words};
 
 /// Runs one command: `words` are those of the command line without the program's name, files are
 /// read by name, and the text of the answer is written to the sink.
@@ -20,6 +21,8 @@ pub fn run<F: Files, O: Sink>(alloc: Global, words: &Words, files: &mut F, out: 
         (record { told = F.told files.old; before = F.faults files.old; after = F.faults files.new; failed = F.failed files.new })
         (record { held = O.written out.old; holds = O.written out.new; before = O.faults out.old; after = O.faults out.new })
         words.now result }
+    ensures read_fault { result ≡ Status.ReadFault → Rose (F.faults files.old) (F.faults files.new) }
+    ensures write_fault { result ≡ Status.WriteFault → Rose (O.faults out.old) (O.faults out.new) }
     // What names hold doesn't change.
     ensures kept { F.told files.new ≡ F.told files.old }
     // Where `check lone` says yes, no activation lasts longer than the bound that it wrote.
@@ -36,6 +39,14 @@ pub fn run<F: Files, O: Sink>(alloc: Global, words: &Words, files: &mut F, out: 
         },
         Err(Memory) => Status::Memory,
     }
+}
+
+/// A run over objects that never fail: no fault is answered.
+pub fn run_surely(alloc: Global, words: &Words, files: &mut SureFiles, out: &mut SureSink) -> Status
+    ensures no_read_fault { result ≢ Status.ReadFault }
+    ensures no_write_fault { result ≢ Status.WriteFault }
+{
+    run(alloc, words, files, out)
 }
 
 /// The answer to the words.

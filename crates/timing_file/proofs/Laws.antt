@@ -1,12 +1,12 @@
 -- A timing that is read is lawful.
-use Rattle.std.proofs.Common.{◌≡◌, ℕ, zero, suc, ◌^◌, ◌%◌, ◌<◌, ◌≤◌, Bool, true, false, cond, List, [], ◌∷◌, length, Option, Some, None, option_map, Result, Ok, Err, refl, sym, ap, subst, ◌∙◌, arith, eqb}
-use Rattle.std.specs.Prelude.{option_and_then, IfOk, nat_le, codes, bytes_eq, ◌&&◌}
+use Rattle.std.proofs.Common.{◌≡◌, ℕ, ◌^◌, ◌%◌, ◌<◌, ◌≤◌, Bool, true, false, cond, List, [], ◌∷◌, length, Option, Some, None, option_map, Result, Ok, Err, refl, sym, ap, subst, ◌∙◌, arith, eqb}
+use Rattle.std.specs.Prelude.{IfOk, nat_le, codes}
 use Rattle.std.specs.List.{AllByRecursion}
 use Rattle.std.proofs.lemmas.Bool.{eqb-true, leb-true}
 use Rattle.serde_json.specs.Data.{Data, Members, no_members, member}
 use Rattle.serde_json.specs.Find.{get, as_object}
 use Rattle.json_fields.specs.Forms.{◌>>=◌}
-use Rattle.json_fields.specs.Lists.{list_in, list_up_to, all_of, differ}
+use Rattle.json_fields.specs.Lists.{list_up_to, all_of, differ}
 use Rattle.json_fields.specs.Numbers.{whole_in, address_in}
 use Rattle.json_fields.proofs.Laws.{whole_in-range, address_in-lt, bind_some, and_then_some, map_some, passed, same_some, all_of-all, length-all_of, list_up_to-length}
 use Rattle.timing_file.specs.declared.costs.ClassCosts.{ClassCosts}

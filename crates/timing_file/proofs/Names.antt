@@ -1,6 +1,5 @@
 -- The numbers by name of an object stand once each, since its keys ascend.
-use Rattle.std.proofs.Common.{◌≡◌, ℕ, Bool, true, false, List, [], ◌∷◌, String, Global, string_bytes, string_cmp, nat_cmp, bytes_eq, Ordering, Less, Equal, Option, Some, None, option_map, Result, Ok, Err, map, refl, sym, ap, subst, ◌∙◌}
-use Rattle.std.specs.Prelude.{◌||◌, ◌&&◌, not, IfOk}
+use Rattle.std.proofs.Common.{◌≡◌, ℕ, Bool, true, false, List, [], ◌∷◌, String, Global, string_bytes, string_cmp, nat_cmp, bytes_eq, Less, Equal, Some, option_map, refl, sym, ap, subst}
 use Rattle.std.specs.Cmp.Lexicographic.{slice_cmp}
 use Rattle.std.specs.List.{list_any, AllByRecursion}
 use Rattle.std.specs.List.Sorted.{IsStrictlySortedBy}

@@ -1,5 +1,5 @@
 -- Which timings are lawful: costs, numbers and addresses in their ranges, and nothing stands twice.
-use Rattle.std.specs.Prelude.{◌≡◌, ℕ, ◌*◌, ◌^◌, ◌%◌, ◌<◌, ◌≤◌, List, length, Bool, true, bytes_eq}
+use Rattle.std.specs.Prelude.{◌≡◌, ℕ, ◌^◌, ◌%◌, ◌<◌, ◌≤◌, List, length, Bool, true, bytes_eq}
 use Rattle.std.specs.List.{AllByRecursion}
 use Rattle.json_fields.specs.Lists.{differ}
 use Rattle.timing_file.specs.declared.costs.ClassCosts.{ClassCosts}

@@ -1,6 +1,6 @@
 -- Timing files, versions 1 and 2. Each kind of fault is judged over the whole value, and the first that
 -- holds, in the order in which the kinds are listed, is the fault.
-use Rattle.std.specs.Prelude.{ℕ, ◌-◌, ◌^◌, ◌%◌, List, [], ◌∷◌, length, Bool, true, false, ◌&&◌, ◌==◌, nat_le, codes, if◌then◌else◌, Option, Some, None, Result, Ok, Err, option_map, option_and_then, ◌≡◌, refl}
+use Rattle.std.specs.Prelude.{ℕ, ◌-◌, ◌^◌, ◌%◌, List, [], ◌∷◌, Bool, ◌&&◌, ◌==◌, nat_le, codes, if◌then◌else◌, Option, Some, None, Result, Ok, Err, option_map, option_and_then}
 use Rattle.serde_json.specs.Data.{Data, Members, no_members, member}
 use Rattle.serde_json.specs.Find.{get, as_object}
 use Rattle.json_fields.specs.Forms.{◌>>=◌}
@@ -10,7 +10,7 @@ use Rattle.timing_file.specs.declared.costs.ClassCosts.{ClassCosts}
 use Rattle.timing_file.specs.declared.costs.ServiceCosts.{ServiceCosts}
 use Rattle.timing_file.specs.declared.reading.Costs.{Costs}
 use Rattle.timing_file.specs.declared.fault.TimingKind.{TimingKind}
-use Rattle.timing_file.specs.declared.fault.TimingKind.TheVariants.{Json, Shape, Key, Range, Twice}
+use Rattle.timing_file.specs.declared.fault.TimingKind.TheVariants.{Shape, Key, Range, Twice}
 use Rattle.timing_file.specs.declared.timing.Extra.{Extra}
 use Rattle.timing_file.specs.declared.timing.Loop.{Loop}
 use Rattle.timing_file.specs.declared.timing.NamedNumber.{NamedNumber}

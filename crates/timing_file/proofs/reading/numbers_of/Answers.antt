@@ -1,4 +1,4 @@
-use Rattle.std.proofs.Common.{◌≡◌, Some, sym, ap, ◌∙◌, append-nil}
+use Rattle.std.proofs.Common.{Some, sym, ap, ◌∙◌, append-nil}
 use Rattle.timing_file.specs.Timing.{named}
 use Rattle.timing_file.proofs.Names.{names_differ}
 use Rattle.timing_file.proofs.Numbers.{numbers_go_on}

@@ -1,4 +1,4 @@
-use Rattle.std.proofs.Common.{◌≡◌, arith}
+use Rattle.std.proofs.Common.{arith}
 use Rattle.timing_file.proofs.Bounds.{extra_at-small, class_cost_of-le}
 use Rattle.timing_file.proofs.timing.Timing.insn.Goals as goal
 

@@ -1,0 +1,4 @@
+pub mod Tables
+pub mod Outcome
+pub mod Answers
+pub mod Faults

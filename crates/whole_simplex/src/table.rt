@@ -1,0 +1,84 @@
+ghost use Rattle.std.specs.Prelude.{◌≡◌, ◌+◌, ◌<◌, ◌^◌, ◌++◌, length, map, neg_ℤ, pos, replicate, OnOk, IfOk};
+ghost use Rattle.whole_rows.specs.Rows.{row_at, right_at};
+ghost use Rattle.whole_simplex.specs.Tables.{first_line, first_objective, lines_from};
+
+use crate::line::Line;
+use std::alloc::Global;
+use whole_rows::{Memory, Row, Rows};
+
+/// Adds that many zeros.
+pub fn push_zeros(entries: &mut Vec<i128>, count: usize) -> Result<(), Memory>
+    ensures { OnOk result (entries.new.items ≡ entries.old.items ++ replicate count (pos 0)) }
+{
+    for _place in 0..count {
+        entries.push(0)?;
+    }
+    Ok(())
+}
+
+/// Adds the entries of a row at the columns.
+fn push_columns(entries: &mut Vec<i128>, rows: &Rows, row: usize) -> Result<(), Memory>
+    requires row { row < length rows.now.rows }
+    requires fits { length (row_at rows.now row) ≡ length rows.now.costs }
+    ensures { OnOk result (entries.new.items ≡ entries.old.items ++ row_at rows.now row) }
+{
+    for column in 0..rows.column_count() {
+        entries.push(rows.entry(row, column))?;
+    }
+    Ok(())
+}
+
+/// Adds the negated costs.
+fn push_negated_costs(entries: &mut Vec<i128>, rows: &Rows) -> Result<(), Memory>
+    ensures { OnOk result (entries.new.items ≡ entries.old.items ++ map neg_ℤ rows.now.costs) }
+{
+    for column in 0..rows.column_count() {
+        entries.push(-rows.cost(column))?;
+    }
+    Ok(())
+}
+
+/// The line of a row in table 0: the row's entries, 1 at its own slack, 0 for the objective, and
+/// its right side. The slack is basic.
+fn first_line(alloc: Global, rows: &Rows, row: usize) -> Result<Line, Memory>
+    requires row { row < length rows.now.rows }
+    requires room { length rows.now.costs + length rows.now.rows < 2 ^ 64 }
+    ensures { IfOk result (λ line. line ≡ first_line rows.now row (row_at rows.now row) (right_at rows.now row)) }
+{
+    let count = rows.row_count();
+    let mut entries = Vec::new(alloc);
+    push_columns(&mut entries, rows, row)?;
+    push_zeros(&mut entries, row)?;
+    entries.push(1)?;
+    push_zeros(&mut entries, count - row - 1)?;
+    entries.push(0)?;
+    entries.push(rows.right(row))?;
+    Ok(Line {
+        basic: rows.column_count() + row,
+        entries: Row::from_vec(entries),
+    })
+}
+
+/// The lines of table 0.
+pub fn first_lines(alloc: Global, rows: &Rows) -> Result<Vec<Line>, Memory>
+    requires { length rows.now.costs + length rows.now.rows < 2 ^ 64 }
+    ensures { IfOk result (λ lines. lines.items ≡ lines_from rows.now 0 rows.now.rows rows.now.rights) }
+{
+    let mut lines = Vec::new(alloc);
+    for row in 0..rows.row_count() {
+        lines.push(first_line(alloc, rows, row)?)?;
+    }
+    Ok(lines)
+}
+
+/// The objective row of table 0: the negated costs, zeros, 1 for the objective and 0.
+pub fn first_objective(alloc: Global, rows: &Rows) -> Result<Row, Memory>
+    ensures { IfOk result (λ objective. objective ≡ first_objective rows.now) }
+{
+    let mut entries = Vec::new(alloc);
+    push_negated_costs(&mut entries, rows)?;
+    push_zeros(&mut entries, rows.row_count())?;
+    entries.push(1)?;
+    entries.push(0)?;
+    Ok(Row::from_vec(entries))
+}
