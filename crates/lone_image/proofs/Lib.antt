@@ -6,3 +6,4 @@ pub mod Simulation
 pub mod Bound
 pub mod Yes
 pub mod StateFaults
+pub mod WorkedRun

@@ -50,13 +50,13 @@ same_insn image address one other insn insn' fetched fetched' decoded decoded' =
     cc
 
 -- the words of the service
-argument_decoded : IsWordOf argument_word (Imm Addi 10 0 (pos 0))
+pub argument_decoded : IsWordOf argument_word (Imm Addi 10 0 (pos 0))
 argument_decoded = record { fits = record { registers = (omega arith, omega arith); immediate = (omega (arith, ints), omega (arith, ints)) }; spelled = refl }
 
-number_decoded : IsWordOf number_word (Imm Addi 17 0 (pos 2))
+pub number_decoded : IsWordOf number_word (Imm Addi 17 0 (pos 2))
 number_decoded = record { fits = record { registers = (omega arith, omega arith); immediate = (omega (arith, ints), omega (arith, ints)) }; spelled = refl }
 
-ecall_decoded : IsWordOf ecall_word Ecall
+pub ecall_decoded : IsWordOf ecall_word Ecall
 ecall_decoded = record { fits = record { registers = tt; immediate = tt }; spelled = refl }
 
 -- the three nodes of the service stand one after the other

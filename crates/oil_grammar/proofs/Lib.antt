@@ -1,0 +1,11 @@
+pub mod GapSteps
+pub mod Numerals
+pub mod Accepts
+pub mod Sound
+pub mod Viable
+pub mod Places
+pub mod Texts
+pub mod Depths
+pub mod Shorter
+pub mod Reached
+pub mod Worked

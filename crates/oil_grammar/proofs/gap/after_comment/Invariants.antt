@@ -1,0 +1,9 @@
+use Rattle.std.proofs.Common.{◌≡◌, ◌≤◌, ℕ, List, Bool, length}
+use Rattle.oil_grammar.specs.Tokens.{after_gap, comment}
+use Rattle.oil_grammar.proofs.gap.after_comment.Given as goal
+
+abbrev pub invariant-loop-first : goal.invariant-loop-first
+invariant-loop-first l = record { shorter : length l.rest ≤ length l.fn.bytes; passes : (skips : Bool) (from : List ℕ) → after_gap skips (comment from) l.fn.bytes ≡ after_gap skips (comment from) l.rest }
+
+abbrev pub decreases-loop-first : goal.decreases-loop-first
+decreases-loop-first l = length l.rest

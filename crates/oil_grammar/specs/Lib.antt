@@ -1,0 +1,10 @@
+pub mod Bytes
+pub mod Tokens
+pub mod Grammar
+pub mod Faults
+pub mod Layout
+pub mod Gaps
+pub mod Reading
+pub mod States
+pub mod Advancing
+pub mod Firsts

@@ -1,0 +1,21 @@
+//! OIL texts, as vendors' tools write them for OSEK systems, and the trees that they stand for.
+//!
+//! `read_oil` gives the tree of a whole text, or the line and the kind of the first place at which no
+//! text can go on. `write_oil` gives the one layout of a tree.
+#![tactic(auto)]
+
+mod fault;
+mod first;
+mod gap;
+mod reading;
+mod state;
+mod token;
+mod tree;
+
+pub use fault::{OilFault, OilKind};
+pub use listed::Memory;
+pub use reading::{one_tree, read_oil};
+pub use tree::{Attribute, Attributes, Bytes, Name, Object, Objects, Tree, Value};
+
+#[cfg(test)]
+mod tests;
