@@ -38,7 +38,8 @@ enum Failing {
     Both,
 }
 
-/// Runs the words over the image `a`, its first part `b`, and the certificate `c`.
+/// Runs the words over the image `a`, its first 15 bytes `b`, the certificate `c`, and the image without
+/// its last word, `d`.
 fn outcome(
     alloc: Global,
     words: &[&str],
@@ -58,6 +59,10 @@ fn outcome(
     files.put(
         Text::from_str(alloc, "b")?,
         Bytes::from_slice(alloc, &IMAGE[..15])?,
+    )?;
+    files.put(
+        Text::from_str(alloc, "d")?,
+        Bytes::from_slice(alloc, &IMAGE[..12])?,
     )?;
     files.put(
         Text::from_str(alloc, "c")?,
@@ -121,10 +126,10 @@ fn a_certificate_is_judged_from_bytes_to_the_answer(rt: HostRuntime) -> Result<(
             Status::Input,
         ),
         (
-            &["check", "lone", "c", "c"],
+            &["check", "lone", "d", "c"],
             GOOD,
             Failing::Nothing,
-            "input c\n",
+            "input d\n",
             Status::Input,
         ),
         (
