@@ -1,4 +1,4 @@
-ghost use Rattle.std.specs.Prelude.{◌≡◌, ◌<◌, ◌≤◌, ◌^◌, ◌-ℤ◌, ◌*ℤ◌, length, Ok, unsigned_abs, pos, int_div, IsTrue, ◌↔◌, SomeIff, IfOk, slice_get, slice_index, Some};
+ghost use Rattle.std.specs.Prelude.{◌≡◌, ◌<◌, ◌≤◌, ◌^◌, ◌-ℤ◌, ◌*ℤ◌, length, Ok, unsigned_abs, pos, int_div, IsTrue, ◌↔◌, SomeIff, IfOk, slice_get, slice_index, set, Some};
 ghost use Rattle.std.specs.Int.{IsGcd};
 ghost use Rattle.whole_rows.specs.Row.{IsInRange, AreInRange, combined_entry, IsCombinedEntry, combination, IsCombination, gcd_of, nat_gcd, divisor_of, divided_by, primitive_of, first_negative_of};
 
@@ -96,6 +96,15 @@ impl Row {
     {
         self.entries[i]
     }
+
+    /// Puts another entry in the place of entry `i`.
+    pub fn set(&mut self, i: usize, entry: i128)
+        requires within { i < length self.old }
+        requires in_range { IsInRange entry }
+        ensures { self.new ≡ set self.old i entry }
+    {
+        self.entries[i] = entry;
+    }
 }
 
 /// Whether a number fits 64 bits with its sign, so that two such numbers have a product in range.
@@ -137,7 +146,7 @@ fn difference(a: i128, b: i128) -> Option<i128>
 }
 
 /// `p * x - a * y`, or the numbers whose product or difference leaves the range.
-fn combined_entry(p: i128, x: i128, a: i128, y: i128) -> Result<i128, RowFault>
+pub fn combined_entry(p: i128, x: i128, a: i128, y: i128) -> Result<i128, RowFault>
     ensures value { IsCombinedEntry (combined_entry p x a y) result }
     ensures in_range { IfOk result (λ entry. IsInRange entry) }
 {
@@ -217,7 +226,24 @@ pub fn gcd(a: i128, b: i128) -> u128
     common_divisor(a.unsigned_abs(), b.unsigned_abs())
 }
 
+/// Euclid's algorithm, in 64 bits as soon as the second number fits them: to divide is fast there.
 fn common_divisor(a: u128, b: u128) -> u128
+    ensures { result ≡ nat_gcd a b }
+{
+    let mut x = a;
+    let mut y = b;
+    while y > 0xFFFF_FFFF_FFFF_FFFF {
+        let rest = x % y;
+        x = y;
+        y = rest;
+    }
+    if y == 0 {
+        return x;
+    }
+    u128::from(narrow_divisor(y as u64, (x % y) as u64))
+}
+
+fn narrow_divisor(a: u64, b: u64) -> u64
     ensures { result ≡ nat_gcd a b }
 {
     let mut x = a;

@@ -3,8 +3,8 @@ ghost use Rattle.whole_rows.specs.Terms.{AreTerms};
 ghost use Rattle.whole_rows.specs.Rows.{sample};
 
 use crate::{
-    DualVerdict, Memory, Row, RowFault, RowTerm, Rows, Term, Terms, combine, first_failing,
-    first_negative, gcd, primitive,
+    DualVerdict, Memory, Row, RowFault, RowTerm, Rows, Term, Terms, combine, combined_entry,
+    first_failing, first_negative, gcd, primitive,
 };
 use std::alloc::Global;
 use std::test::Fail;
@@ -104,6 +104,20 @@ fn divides_and_searches_rows(rt: HostRuntime) -> Result<(), Fail> {
         gcd(i128::MIN, 0),
         0x8000_0000_0000_0000_0000_0000_0000_0000
     );
+    assert_eq!(rt;
+        gcd(0xC0_0000_0000_0000_0000, -0xA0_0000_0000_0000_0000),
+        0x20_0000_0000_0000_0000
+    );
+    Ok(())
+}
+
+#[test]
+fn changes_one_entry(rt: HostRuntime) -> Result<(), Fail> {
+    let alloc = rt.alloc();
+    let mut row = row_of(alloc, &[4, 10])?;
+    let entry = combined_entry(3, row.get(1), 2, 7)?;
+    row.set(1, entry);
+    assert_eq!(rt; entries_of(alloc, &row)?.as_slice(), [4, 16].as_slice());
     Ok(())
 }
 
