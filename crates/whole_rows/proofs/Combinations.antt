@@ -37,7 +37,7 @@ abbrev pub append_entries : List ℤ → Result (List ℤ) (ℤ × ℤ) → Resu
 append_entries entries (Ok rest) = Ok (entries ++ rest)
 append_entries entries (Err wide) = Err wide
 
-append_entries-cons : (entries : List ℤ) (entry : ℤ) (rest : Result (List ℤ) (ℤ × ℤ)) → append_entries entries (cons_entry (Ok entry) rest) ≡ append_entries (entries ++ entry ∷ []) rest
+pub append_entries-cons : (entries : List ℤ) (entry : ℤ) (rest : Result (List ℤ) (ℤ × ℤ)) → append_entries entries (cons_entry (Ok entry) rest) ≡ append_entries (entries ++ entry ∷ []) rest
 append_entries-cons entries entry (Ok rest) = ap Ok (sym (append_assoc entries (entry ∷ []) rest))
 append_entries-cons entries entry (Err wide) = refl
 
