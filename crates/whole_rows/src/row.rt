@@ -97,6 +97,13 @@ impl Row {
         self.entries[i]
     }
 
+    /// A law: every entry of a row is in range. Does nothing.
+    pub fn entries_are_in_range(&self)
+        ensures { AreInRange self.now }
+    {
+        let _ = &self.entries;
+    }
+
     /// Puts another entry in the place of entry `i`.
     pub fn set(&mut self, i: usize, entry: i128)
         requires within { i < length self.old }
