@@ -1,4 +1,9 @@
 pub mod Pieces
+pub mod Numbers
+pub mod Rays
+pub mod LoneLaws
 pub mod CheckLoneLaws
+pub mod OutcomeLaws
+pub mod BoundLoneLaws
 pub mod RunLaws
 pub mod ReadLaws

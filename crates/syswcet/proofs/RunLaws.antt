@@ -5,16 +5,18 @@ use Rattle.wcet_io.specs.Sink.{appended}
 use Rattle.syswcet.specs.declared.status.Status.{Status}
 use Rattle.syswcet.specs.declared.status.Status.TheVariants as status
 use Rattle.syswcet.specs.declared.words.Command.{Command}
-use Rattle.syswcet.specs.declared.words.Command.TheVariants.{CheckLone}
+use Rattle.syswcet.specs.declared.words.Command.TheVariants.{CheckLone, BoundLone}
 use Rattle.syswcet.specs.Reports.{AnswerData, words_answer}
 use Rattle.syswcet.specs.Words.{command_of, word}
-use Rattle.syswcet.specs.CheckLone.{IsCheckLoneAnswer}
-use Rattle.syswcet.specs.Run.{Reads, HasAnswer, IsCommandAnswer, Writing, Ends, YesBounds}
-use Rattle.syswcet.proofs.CheckLoneLaws.{IsOwn, own_as, own_check_lone, YesAnswer, yes_check_lone}
+use Rattle.syswcet.specs.Run.{Reads, HasAnswer, IsCommandAnswer, Writing, Ends, YesBounds, GreatestBounds}
+use Rattle.syswcet.proofs.LoneLaws.{IsOwn, own_as}
+use Rattle.syswcet.proofs.CheckLoneLaws.{own_check_lone, YesAnswer, yes_check_lone}
+use Rattle.syswcet.proofs.BoundLoneLaws.{own_bound_lone, BoundAnswer, ok_bound_lone}
 
 own_command : (told : List ℕ → Option (List ℕ)) (words : List (List ℕ)) (command : Option Command) (made : AnswerData) → IsCommandAnswer told words command made → IsOwn made.status
 own_command told words None made is = own_as made words_answer is tt
 own_command told words (Some CheckLone) made is = own_check_lone told (word words 2) (word words 3) made is
+own_command told words (Some (BoundLone pivots)) made is = own_bound_lone pivots told (word words 2) (word words 3) made is
 
 -- a status with which the whole text is written
 abbrev IsWritten : Status → Type 0
@@ -61,22 +63,29 @@ pub ends_whole : (reads : Reads) (writing : Writing) (words : List (List ℕ)) (
 ends_whole reads writing words made s has whole same =
     ends_with reads writing words made s has whole (sym same) (subst IsWritten (sym same) (written_answer reads words made has))
 
-yes_command : (reads : Reads) (writing : Writing) (words : List (List ℕ)) (made : AnswerData) (command : Option Command) → command ≡ Some CheckLone
-    → IsCommandAnswer reads.told words command made → writing.holds ≡ appended writing.held made.text → made.status ≡ status.Ok
-    → YesBounds reads writing (word words 2)
-yes_command reads writing words made command is_command is whole ok =
-    let check : IsCheckLoneAnswer reads.told (word words 2) (word words 3) made = subst (λ (c : Option Command). IsCommandAnswer reads.told words c made) is_command is in
-    let yes : YesAnswer (reads.told (word words 2)) made = yes_check_lone reads.told (word words 2) (word words 3) made check ok in
-    (yes.bound, whole ∙ ap (appended writing.held) yes.text, yes.bounds)
-
--- status Ok of `check lone`
-pub bounds_whole : (reads : Reads) (writing : Writing) (words : List (List ℕ)) (made : AnswerData) → HasAnswer reads words made
-    → writing.holds ≡ appended writing.held made.text → made.status ≡ status.Ok → command_of words ≡ Some CheckLone
-    → YesBounds reads writing (word words 2)
-bounds_whole reads writing words made (inl fault) whole ok is_command =
+-- with status Ok no read failed, and the answer is that of the command
+answered_ok : (reads : Reads) (words : List (List ℕ)) (command : Command) (made : AnswerData) → HasAnswer reads words made → made.status ≡ status.Ok
+    → command_of words ≡ Some command → IsCommandAnswer reads.told words (Some command) made
+answered_ok reads words command made (inl fault) ok is_command =
     let wrong : status.ReadFault ≡ status.Ok = sym (ap (λ (x : AnswerData). x.status) fault.text) ∙ ok in
     absurd (cc)
-bounds_whole reads writing words made (inr is) whole ok is_command = yes_command reads writing words made (command_of words) is_command is.1 whole ok
+answered_ok reads words command made (inr is) ok is_command = subst (λ (c : Option Command). IsCommandAnswer reads.told words c made) is_command is.1
+
+-- status Ok of `check lone`
+pub yes_whole : (reads : Reads) (writing : Writing) (words : List (List ℕ)) (made : AnswerData) → HasAnswer reads words made
+    → writing.holds ≡ appended writing.held made.text → made.status ≡ status.Ok → command_of words ≡ Some CheckLone
+    → YesBounds reads writing (word words 2)
+yes_whole reads writing words made has whole ok is_command =
+    let yes : YesAnswer (reads.told (word words 2)) made = yes_check_lone reads.told (word words 2) (word words 3) made (answered_ok reads words CheckLone made has ok is_command) ok in
+    (yes.bound, whole ∙ ap (appended writing.held) yes.text, yes.bounds)
+
+-- status Ok of `bound lone`
+pub bound_whole : (reads : Reads) (writing : Writing) (words : List (List ℕ)) (made : AnswerData) (pivots : ℕ) → HasAnswer reads words made
+    → writing.holds ≡ appended writing.held made.text → made.status ≡ status.Ok → command_of words ≡ Some (BoundLone pivots)
+    → GreatestBounds reads writing (word words 2)
+bound_whole reads writing words made pivots has whole ok is_command =
+    let found : BoundAnswer (reads.told (word words 2)) made = ok_bound_lone pivots reads.told (word words 2) (word words 3) made (answered_ok reads words (BoundLone pivots) made has ok is_command) ok in
+    (found.bound, whole ∙ ap (appended writing.held) found.text, found.bounds)
 
 -- ---- faults rose where they are answered
 

@@ -1,5 +1,10 @@
 pub mod Status
 pub mod Reports
 pub mod Words
+pub mod Files
+pub mod LoneFiles
 pub mod CheckLone
+pub mod Outcomes
+pub mod BoundLone
+pub mod Lone
 pub mod Run

@@ -6,10 +6,13 @@ use Rattle.wcet_io.specs.Sink.{appended, AppendsPrefix}
 use Rattle.syswcet.specs.declared.status.Status.{Status}
 use Rattle.syswcet.specs.declared.status.Status.TheVariants.{WriteFault, Memory}
 use Rattle.syswcet.specs.declared.words.Command.{Command}
-use Rattle.syswcet.specs.declared.words.Command.TheVariants.{CheckLone}
+use Rattle.syswcet.specs.declared.words.Command.TheVariants.{CheckLone, BoundLone}
 use Rattle.syswcet.specs.Reports.{AnswerData, words_answer, read_answer}
 use Rattle.syswcet.specs.Words.{command_of, word}
-use Rattle.syswcet.specs.CheckLone.{IsCheckLoneAnswer, BoundsImage, yes_text}
+use Rattle.syswcet.specs.LoneFiles.{lone_task, BoundsImage}
+use Rattle.syswcet.specs.CheckLone.{IsCheckLoneAnswer, yes_text}
+use Rattle.syswcet.specs.Outcomes.{bound_answer}
+use Rattle.syswcet.specs.BoundLone.{IsBoundLoneAnswer, IsGreatestOfImage}
 
 -- What the object that reads files tells around a call: the bytes that names hold, the count of
 -- faults before and after the call, and the name of the last read that failed.
@@ -23,6 +26,7 @@ pub record Reads : Type 0 where
 abbrev pub files_of : Option Command → List (List ℕ) → List (List ℕ)
 files_of None words = []
 files_of (Some CheckLone) words = word words 2 ∷ word words 3 ∷ []
+files_of (Some (BoundLone pivots)) words = word words 2 ∷ word words 3 ∷ []
 
 -- One of the named files could not be read: a read of it failed.
 pub record IsReadFault (reads : Reads) (names : List (List ℕ)) (made : AnswerData) : Type 0 where
@@ -33,17 +37,18 @@ pub record IsReadFault (reads : Reads) (names : List (List ℕ)) (made : AnswerD
   pub text : made ≡ read_answer name
 
 -- An answer has its cause: a read of one of the named files failed; or none did, and the fact holds.
-abbrev pub HasCause : Reads → List (List ℕ) → AnswerData → Type 0 → Type 0
-HasCause reads names made fact = IsReadFault reads names made ⊎ ((reads.after ≡ reads.before) × fact)
+abbrev pub FollowsReads : Reads → List (List ℕ) → AnswerData → Type 0 → Type 0
+FollowsReads reads names made fact = IsReadFault reads names made ⊎ ((reads.after ≡ reads.before) × fact)
 
 -- The answer to the words, where no read failed.
 abbrev pub IsCommandAnswer : (List ℕ → Option (List ℕ)) → List (List ℕ) → Option Command → AnswerData → Type 0
 IsCommandAnswer told words None made = made ≡ words_answer
 IsCommandAnswer told words (Some CheckLone) made = IsCheckLoneAnswer told (word words 2) (word words 3) made
+IsCommandAnswer told words (Some (BoundLone pivots)) made = IsBoundLoneAnswer pivots told (word words 2) (word words 3) made
 
 abbrev pub HasAnswer : Reads → List (List ℕ) → AnswerData → Type 0
 HasAnswer reads words made =
-    HasCause reads (files_of (command_of words) words) made (IsCommandAnswer reads.told words (command_of words) made)
+    FollowsReads reads (files_of (command_of words) words) made (IsCommandAnswer reads.told words (command_of words) made)
 
 -- What the sink tells around a call.
 pub record Writing : Type 0 where
@@ -70,3 +75,10 @@ abbrev pub YesBounds : Reads → Writing → List ℕ → Type 0
 YesBounds reads writing image =
     (bound : ℕ) × (writing.holds ≡ appended writing.held (yes_text bound))
     × ((bytes : List ℕ) → Told (reads.told image) bytes → BoundsImage bytes bound)
+
+-- Where `bound lone` wrote `T N`, N is the greatest value, rounded down, of the rows of the told image, and every
+-- activation of the lone machine over it lasts at most N cycles.
+abbrev pub GreatestBounds : Reads → Writing → List ℕ → Type 0
+GreatestBounds reads writing image =
+    (bound : ℕ) × (writing.holds ≡ appended writing.held (bound_answer lone_task bound).text)
+    × ((bytes : List ℕ) → Told (reads.told image) bytes → IsGreatestOfImage bytes bound × BoundsImage bytes bound)

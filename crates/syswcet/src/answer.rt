@@ -1,8 +1,8 @@
 //! Answers: a status with the whole text that belongs to it.
 ghost use Rattle.std.specs.Prelude.{◌≡◌, ◌++◌, string_bytes, IfOk};
 ghost use Rattle.std.specs.Fmt.{decimal};
-ghost use Rattle.syswcet.specs.Reports.{newline, words_answer, input_answer, unaligned_answer, read_answer};
-ghost use Rattle.syswcet.specs.CheckLone.{no_text, verdict_answer};
+ghost use Rattle.syswcet.specs.Reports.{newline, words_answer, input_answer, long_answer, unaligned_answer, read_answer, long_text, no_text, no_answer};
+ghost use Rattle.syswcet.specs.CheckLone.{verdict_answer};
 
 use crate::status::Status;
 use listed::Memory;
@@ -15,16 +15,15 @@ use wcet_io::Text;
 #[derive(Debug, Drop)]
 pub struct Answer {
     status: Status,
-    text: String,
+    text: Vec<u8>,
 }
 
 impl Model for Answer {
-    ghost use Rattle.std.specs.Prelude.{string_bytes};
     ghost use Rattle.syswcet.specs.Reports.{AnswerData};
 
     ghost Value = { AnswerData };
 
-    ghost view = { λ made. record { status = made.status; text = string_bytes made.text } };
+    ghost view = { λ made. record { status = made.status; text = made.text.items } };
 }
 
 impl Answer {
@@ -33,10 +32,7 @@ impl Answer {
         ensures { IfOk result (λ made. made ≡ words_answer) }
     {
         let text = String::from_str(alloc, "words\n")?;
-        Ok(Answer {
-            status: Status::Words,
-            text,
-        })
+        Ok(Answer::made(Status::Words, text))
     }
 
     /// The named file has a fault.
@@ -45,10 +41,15 @@ impl Answer {
     {
         let name = name.as_str();
         let text = format!(in alloc; "input {name}\n")?;
-        Ok(Answer {
-            status: Status::Input,
-            text,
-        })
+        Ok(Answer::made(Status::Input, text))
+    }
+
+    /// The named file is longer than its limit: so many bytes of it were taken.
+    pub fn long(alloc: Global, name: &Text, taken: u64) -> Result<Answer, Memory>
+        ensures { IfOk result (λ made. made ≡ long_answer name.now taken) }
+    {
+        let text = long_text(alloc, name.as_str(), taken)?;
+        Ok(Answer::made(Status::Input, text))
     }
 
     /// The length of a flat image is no multiple of 4.
@@ -56,10 +57,7 @@ impl Answer {
         ensures { IfOk result (λ made. made ≡ unaligned_answer) }
     {
         let text = String::from_str(alloc, "elf Unaligned\n")?;
-        Ok(Answer {
-            status: Status::Input,
-            text,
-        })
+        Ok(Answer::made(Status::Input, text))
     }
 
     /// The named file could not be read.
@@ -68,10 +66,15 @@ impl Answer {
     {
         let name = name.as_str();
         let text = format!(in alloc; "read {name}\n")?;
-        Ok(Answer {
-            status: Status::ReadFault,
-            text,
-        })
+        Ok(Answer::made(Status::ReadFault, text))
+    }
+
+    /// The condition fails.
+    pub fn no(alloc: Global, why: Why) -> Result<Answer, Memory>
+        ensures { IfOk result (λ made. made ≡ no_answer why) }
+    {
+        let text = no_text(alloc, why)?;
+        Ok(Answer::made(Status::No, text))
     }
 
     /// A certificate with this bound, in cycles, has the verdict.
@@ -79,14 +82,21 @@ impl Answer {
         ensures { IfOk result (λ made. made ≡ verdict_answer bound verdict) }
     {
         match verdict {
-            Verdict::Yes => Ok(Answer {
-                status: Status::Ok,
-                text: format!(in alloc; "yes T {bound}\n")?,
-            }),
-            Verdict::No(why) => Ok(Answer {
-                status: Status::No,
-                text: no_text(alloc, why)?,
-            }),
+            Verdict::Yes => {
+                let text = format!(in alloc; "yes T {bound}\n")?;
+                Ok(Answer::made(Status::Ok, text))
+            }
+            Verdict::No(why) => Answer::no(alloc, why),
+        }
+    }
+
+    /// The status with this text.
+    pub(crate) fn made(status: Status, text: String) -> Answer
+        ensures { result ≡ record { status = status; text = string_bytes text } }
+    {
+        Answer {
+            status,
+            text: text.into_bytes(),
         }
     }
 
@@ -101,7 +111,7 @@ impl Answer {
     pub fn text(&self) -> &[u8]
         ensures { result.now ≡ self.now.text }
     {
-        self.text.as_bytes()
+        self.text.as_slice()
     }
 }
 
@@ -123,8 +133,20 @@ fn no_text(alloc: Global, why: Why) -> Result<String, AllocError>
     }
 }
 
+/// The line that names a file with the number of bytes that were taken of it.
+fn long_text(alloc: Global, name: &str, taken: u64) -> Result<String, AllocError>
+    ensures { IfOk result (λ text. string_bytes text ≡ long_text name.now taken) }
+{
+    let mut text = String::from_str(alloc, "long ")?;
+    text.push_str(name)?;
+    text.push_str(" ")?;
+    text.push_str(taken.to_string(alloc)?.as_str())?;
+    text.push_str("\n")?;
+    Ok(text)
+}
+
 /// A line with two numbers, each behind a text.
-fn two_numbers(
+pub(crate) fn two_numbers(
     alloc: Global,
     before: &str,
     first: usize,

@@ -2,7 +2,10 @@
 #![tactic(auto)]
 
 mod answer;
+mod bound_lone;
 mod check_lone;
+mod lone;
+mod outcome;
 mod report;
 mod run;
 mod status;

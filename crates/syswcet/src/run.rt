@@ -2,10 +2,10 @@
 ghost use Rattle.std.specs.Prelude.{◌≡◌, ◌≢◌, ℕ, List, Ok, Some, IfOk};
 ghost use Rattle.wcet_io.specs.Causes.{Rose};
 ghost use Rattle.syswcet.specs.Words.{command_of, word};
-ghost use Rattle.syswcet.specs.Run.{HasAnswer, Ends, YesBounds};
+ghost use Rattle.syswcet.specs.Run.{HasAnswer, Ends, YesBounds, GreatestBounds};
 
 use crate::answer::Answer;
-use crate::check_lone::check_lone;
+use crate::lone::{Question, lone};
 use crate::report::write_text;
 use crate::status::Status;
 use crate::words::{Command, command_of};
@@ -27,6 +27,11 @@ pub fn run<F: Files, O: Sink>(alloc: Global, words: &Words, files: &mut F, out: 
     ensures kept { F.told files.new ≡ F.told files.old }
     // Where `check lone` says yes, no activation lasts longer than the bound that it wrote.
     ensures check_lone_bounds { result ≡ Status.Ok → command_of words.now ≡ Some Command.CheckLone → YesBounds
+        (record { told = F.told files.old; before = F.faults files.old; after = F.faults files.new; failed = F.failed files.new })
+        (record { held = O.written out.old; holds = O.written out.new; before = O.faults out.old; after = O.faults out.new })
+        (word words.now 2) }
+    // Where `bound lone` wrote a bound, it is the greatest value of the image's rows, and no activation lasts longer.
+    ensures bound_lone_bounds { (pivots : ℕ) → result ≡ Status.Ok → command_of words.now ≡ Some (Command.BoundLone pivots) → GreatestBounds
         (record { told = F.told files.old; before = F.faults files.old; after = F.faults files.new; failed = F.failed files.new })
         (record { held = O.written out.old; holds = O.written out.new; before = O.faults out.old; after = O.faults out.new })
         (word words.now 2) }
@@ -58,6 +63,17 @@ fn answer<F: Files>(alloc: Global, words: &Words, files: &mut F) -> Result<Answe
 {
     match command_of(words) {
         None => Answer::words(alloc),
-        Some(Command::CheckLone) => check_lone(alloc, words.get(2), words.get(3), files),
+        Some(Command::CheckLone) => {
+            lone(alloc, Question::Check, words.get(2), words.get(3), files)
+        }
+        Some(Command::BoundLone { pivots }) => {
+            lone(
+                alloc,
+                Question::Bound { pivots },
+                words.get(2),
+                words.get(3),
+                files,
+            )
+        }
     }
 }

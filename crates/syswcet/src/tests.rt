@@ -29,6 +29,17 @@ const NO_STATE_AFTER: &str =
 const DENOMINATOR_ZERO: &str =
     r#"{"bound":"13","denominator":"0","multipliers":["13","10","3","2","1","0","3","0","0"],"states":[[0,[[0,0]],[],0,0],[0,[[]],[],0,0]],"task":"T"}"#;
 
+/// The task at its block, and after its end.
+const CLOSED: &str = "[[0,[[0,0]],[],0,0],[0,[[]],[],0,0]]";
+
+const NOT_CLOSED: &str = "[[0,[[0,0]],[],0,0]]";
+
+const LISTED_TWICE: &str = "[[0,[[0,0]],[],0,0],[0,[[]],[],0,0],[0,[[0,0]],[],0,0]]";
+
+const NO_INITIAL: &str = "[[0,[[]],[],0,0]]";
+
+const UNDER_A_LOCK: &str = "[[0,[[0,0]],[],0,0],[0,[[]],[],0,0],[0,[[0,0]],[],1,0]]";
+
 /// Which calls fail.
 #[derive(Clone, Copy)]
 enum Failing {
@@ -38,12 +49,12 @@ enum Failing {
     Both,
 }
 
-/// Runs the words over the image `a`, its first 15 bytes `b`, the certificate `c`, and the image without
-/// its last word, `d`.
+/// Runs the words over the image `a`, its first 15 bytes `b`, the image without its last word, `d`, and the
+/// text beside the image, which both `c` and `k` hold.
 fn outcome(
     alloc: Global,
     words: &[&str],
-    certificate: &str,
+    beside: &str,
     failing: Failing,
 ) -> Result<(Status, MemSink), Memory> {
     let mut given = Words::new(alloc);
@@ -64,10 +75,12 @@ fn outcome(
         Text::from_str(alloc, "d")?,
         Bytes::from_slice(alloc, &IMAGE[..12])?,
     )?;
-    files.put(
-        Text::from_str(alloc, "c")?,
-        Bytes::from_slice(alloc, certificate.as_bytes())?,
-    )?;
+    for name in ["c", "k"] {
+        files.put(
+            Text::from_str(alloc, name)?,
+            Bytes::from_slice(alloc, beside.as_bytes())?,
+        )?;
+    }
     if matches!(failing, Failing::Read | Failing::Both) {
         files.fail_at(0)?;
     }
@@ -144,6 +157,127 @@ fn a_certificate_is_judged_from_bytes_to_the_answer(rt: HostRuntime) -> Result<(
         (check, GOOD, Failing::Both, "", Status::WriteFault),
     ] {
         let (ended, out) = outcome(rt.alloc(), words, certificate, failing)?;
+        assert_eq!(rt; ended, status);
+        assert_eq!(rt; out.written(), text.as_bytes());
+    }
+    Ok(())
+}
+
+#[test]
+fn the_greatest_value_of_the_rows_is_found(rt: HostRuntime) -> Result<(), Fail> {
+    for (words, states, failing, text, status) in [
+        ("a k", CLOSED, Failing::Nothing, "T 13\n", Status::Ok),
+        (
+            "a k --pivots 1",
+            CLOSED,
+            Failing::Nothing,
+            "budget pivots 1\n",
+            Status::Budget,
+        ),
+        (
+            "a k --pivots 0010000000",
+            CLOSED,
+            Failing::Nothing,
+            "T 13\n",
+            Status::Ok,
+        ),
+        (
+            "a k",
+            NOT_CLOSED,
+            Failing::Nothing,
+            "no state 0 transition 0\n",
+            Status::No,
+        ),
+        (
+            "a k --pivots 1",
+            NO_INITIAL,
+            Failing::Nothing,
+            "no initial Main\n",
+            Status::No,
+        ),
+        (
+            "a k",
+            UNDER_A_LOCK,
+            Failing::Nothing,
+            "no misuse state 2 code 2\n",
+            Status::No,
+        ),
+        (
+            "a k",
+            LISTED_TWICE,
+            Failing::Nothing,
+            "input k\n",
+            Status::Input,
+        ),
+        ("a k", "[", Failing::Nothing, "input k\n", Status::Input),
+        (
+            "b k",
+            CLOSED,
+            Failing::Nothing,
+            "elf Unaligned\n",
+            Status::Input,
+        ),
+        ("d k", "[", Failing::Nothing, "input d\n", Status::Input),
+        ("a k", CLOSED, Failing::Read, "read a\n", Status::ReadFault),
+        ("a k", CLOSED, Failing::Write, "", Status::WriteFault),
+        (
+            "--pivots 5",
+            CLOSED,
+            Failing::Nothing,
+            "read --pivots\n",
+            Status::ReadFault,
+        ),
+        ("a", CLOSED, Failing::Nothing, "words\n", Status::Words),
+        (
+            "a k --pivots",
+            CLOSED,
+            Failing::Nothing,
+            "words\n",
+            Status::Words,
+        ),
+        (
+            "a k --pivots 0",
+            CLOSED,
+            Failing::Nothing,
+            "words\n",
+            Status::Words,
+        ),
+        (
+            "a k --pivots 10000001",
+            CLOSED,
+            Failing::Nothing,
+            "words\n",
+            Status::Words,
+        ),
+        (
+            "a k --pivots 00000000001",
+            CLOSED,
+            Failing::Nothing,
+            "words\n",
+            Status::Words,
+        ),
+        (
+            "a k --pivots +1",
+            CLOSED,
+            Failing::Nothing,
+            "words\n",
+            Status::Words,
+        ),
+        (
+            "a k --pivot 1",
+            CLOSED,
+            Failing::Nothing,
+            "words\n",
+            Status::Words,
+        ),
+    ] {
+        let mut given = Vec::new(rt.alloc());
+        given.push("bound")?;
+        given.push("lone")?;
+        for word in words.split(' ') {
+            given.push(word)?;
+        }
+        let (ended, out) = outcome(rt.alloc(), given.as_slice(), states, failing)?;
         assert_eq!(rt; ended, status);
         assert_eq!(rt; out.written(), text.as_bytes());
     }
