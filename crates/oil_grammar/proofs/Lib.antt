@@ -14,4 +14,5 @@ pub mod Lines
 pub mod Bare
 pub mod BlockLines
 pub mod Again
+pub mod OneFault
 pub mod Worked

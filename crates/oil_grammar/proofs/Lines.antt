@@ -1,11 +1,9 @@
 -- The lines of a layout, written one after the other.
 use Rattle.std.proofs.Common.{◌≡◌, ℕ, suc, ◌+◌, ◌-◌, ◌<◌, ◌≤◌, List, [], ◌∷◌, ◌++◌, length, drop, get_or, refl, sym, ap, ◌∙◌, append_assoc, arith, add-one, drop-cons}
-use Rattle.std.proofs.lemmas.List.{drop_all}
-use Rattle.std.specs.Prelude.{OnOk, Result, Ok, Err}
+use Rattle.std.proofs.lemmas.List.{append-nil, drop_all}
 use Rattle.oil_grammar.specs.Layout.{closing_line, closing_lines, attribute_line, level_within, attribute_lines, object_lines, objects_lines}
 use Rattle.oil_grammar.specs.declared.tree.Attribute.{Attribute}
 use Rattle.oil_grammar.specs.declared.tree.Object.{Object}
-use Rattle.oil_grammar.proofs.Accepts.{append-nil}
 
 -- one more piece is written of what is left
 wrote : (old new piece rest left whole : List ℕ) → new ≡ old ++ piece → left ≡ piece ++ rest → old ++ left ≡ whole → new ++ rest ≡ whole
@@ -13,11 +11,6 @@ wrote old new piece rest left whole is cut all = rw is (append_assoc old piece r
 
 wrote_all : (out left whole : List ℕ) → left ≡ [] → out ++ left ≡ whole → out ≡ whole
 wrote_all out left whole none all = sym (append-nil out) ∙ (ap (λ l. out ++ l) (sym none) ∙ all)
-
--- what holds after an Ok
-pub then_holds : {X E P Q : Type 0} (r : Result X E) → (P → Q) → OnOk r P → OnOk r Q
-then_holds (Ok x) gives holds = gives holds
-then_holds (Err e) gives holds = tt
 
 -- the item at an index, and those after it
 cut_item : {X : Type 0} (xs : List X) (i : ℕ) (x : X) → i < length xs → x ≡ get_or xs i x → drop i xs ≡ x ∷ drop (i + 1) xs

@@ -1,6 +1,7 @@
 use Rattle.std.proofs.Common.{ap, ◌∙◌, ◌++◌, ◌-◌}
+use Rattle.std.proofs.lemmas.Result.{on_ok_weaker}
 use Rattle.oil_grammar.specs.Layout.{closing_lines}
-use Rattle.oil_grammar.proofs.Lines.{attributes_step, attributes_done, then_holds}
+use Rattle.oil_grammar.proofs.Lines.{attributes_step, attributes_done}
 use Rattle.oil_grammar.proofs.writing.put_attributes.Goals as goal
 
 pub loop-attribute-preserved : goal.loop-attribute-preserved
@@ -13,6 +14,6 @@ loop-attribute-preserved c =
 
 pub returns : goal.returns
 returns c =
-    then_holds c.put_closings-2.result
+    on_ok_weaker c.put_closings-2.result
     (λ is. attributes_done c.loop-attribute.out.items c.put_closings-2.new.out.items _ c.loop-attribute.level c.loop-attribute.attribute-index c.args.attributes.now c.loop-attribute-test.false is c.loop-attribute.invariant)
     c.put_closings-2.ensures
