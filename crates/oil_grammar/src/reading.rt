@@ -1,10 +1,9 @@
 //! Reading a whole text, token by token.
 
-ghost use Rattle.std.specs.Prelude.{◌≡◌, ◌+◌, ◌<◌, ◌≤◌, ◌^◌, length, Result, Ok, Err, IfOk, IfErr, List, ℕ};
+ghost use Rattle.std.specs.Prelude.{◌≡◌, ◌⊎◌, ◌+◌, ◌<◌, ◌≤◌, ◌^◌, length, Result, Ok, Err, IfOk, IfErr, List, ℕ};
 ghost use Rattle.oil_grammar.specs.Reading.{depth_of, RoomFor};
 ghost use Rattle.oil_grammar.specs.Advancing.{Advances, EndsAs, Passes};
 ghost use Rattle.oil_grammar.specs.Grammar.{IsTextOf};
-ghost use Rattle.std.proofs.Common.{◌⊎◌};
 ghost use Rattle.oil_grammar.specs.declared.tree.Tree.{Tree};
 ghost use Rattle.oil_grammar.specs.declared.fault.OilKind.{OilKind};
 ghost use Rattle.oil_grammar.specs.declared.fault.OilFault.TheVariants.{At};
