@@ -1,6 +1,7 @@
 -- The form of the tokens that bytes begin with: names are names, texts have no quote in them, and numbers have
 -- room in 64 bits.
-use Rattle.std.proofs.Common.{◌≡◌, ℕ, suc, ◌+◌, ◌^◌, ◌<◌, Bool, true, false, cond, ◌||◌, List, [], ◌∷◌, length, take, drop, refl, subst, Some, None, Option, Ok, Err, Result, arith}
+use Rattle.std.proofs.Common.{◌≡◌, ℕ, ◌+◌, ◌^◌, ◌<◌, Bool, true, false, cond, List, [], ◌∷◌, length, take, drop, refl, subst, Some, None, Option, Ok, Err, Result}
+use Rattle.std.proofs.Math.Numerals.{one-add}
 use borrow.Author.Tests.{ltb-true}
 use Rattle.std.specs.Prelude.{IfOk, if◌then◌else◌, ◌==◌, nat_lt, not, ⊤}
 use Rattle.std.specs.List.{prefix_len}
@@ -46,12 +47,9 @@ AreProper (t ∷ tokens) = IsProper t × AreProper tokens
 
 -- What is read.
 
-pub one_more : (n : ℕ) → 1 + n ≡ suc n
-one_more n = omega arith
-
 taken_by : (p : ℕ → Bool) (b : ℕ) (rest : List ℕ) (n : ℕ) (passes : Bool) → p b ≡ passes → Every p (take n rest) → Every p (take (cond passes (1 + n) 0) (b ∷ rest))
 taken_by p b rest n false is all = tt
-taken_by p b rest n true is all = rw one_more (is, all)
+taken_by p b rest n true is all = rw one-add (is, all)
 
 -- the bytes up to the first that doesn't pass
 pub taken : (p : ℕ → Bool) (bytes : List ℕ) → Every p (take (prefix_len p bytes) bytes)
@@ -61,15 +59,15 @@ taken p (b ∷ rest) = taken_by p b rest (prefix_len p rest) (p b) refl (taken p
 GivesProper : Result (Token × List ℕ) OilKind → Type 0
 GivesProper read = IfOk read (λ r. IsProper r.0)
 
-or_left : (x y : Bool) → x ≡ true → (x || y) ≡ true
-or_left true y is = refl
-or_left false y is = absurd (cc)
+-- a name may go on with a letter
+pub letter_passes : (b : ℕ) → is_letter b ≡ true → is_name_byte b ≡ true
+letter_passes b is = rw is refl
 
 name_from : (b : ℕ) (rest : List ℕ) → is_letter b ≡ true → IsName (take (prefix_len is_name_byte (b ∷ rest)) (b ∷ rest))
 name_from b rest is = record {
   first = b;
   others = take (prefix_len is_name_byte rest) rest;
-  same = rw (or_left (is_letter b) (is_digit b) is, one_more) refl;
+  same = rw (letter_passes b is, one-add) refl;
   letter = is;
   name_bytes = taken is_name_byte rest;
 }

@@ -1,6 +1,8 @@
 -- Bytes that are read as a token, with what may follow it.
-use Rattle.std.proofs.Common.{◌≡◌, ℕ, suc, ◌+◌, ◌-◌, ◌*◌, ◌/◌, ◌%◌, ◌^◌, ◌≤◌, ◌<◌, Bool, true, false, cond, ◌||◌, ◌&&◌, List, [], ◌∷◌, ◌++◌, length, take, drop, refl, sym, ap, ◌∙◌, subst, Some, None, Ok, arith, append_assoc, length-append, lt-ltb}
+use Rattle.std.proofs.Common.{◌≡◌, ℕ, suc, ◌+◌, ◌-◌, ◌*◌, ◌/◌, ◌%◌, ◌^◌, ◌≤◌, ◌<◌, Bool, true, false, cond, ◌||◌, List, [], ◌∷◌, ◌++◌, length, take, drop, refl, sym, ap, ◌∙◌, subst, Some, None, Ok, arith, append_assoc, length-append, lt-ltb}
 use Rattle.std.proofs.lemmas.List.{append-nil}
+use Rattle.std.proofs.Math.Bool.{and-false}
+use Rattle.std.proofs.Math.Numerals.{one-add}
 use Rattle.std.proofs.Math.Seq.{take-append_seam, drop-append_seam}
 use Rattle.std.proofs.lemmas.Bool.Decides.{nat_tests}
 use Rattle.std.proofs.lemmas.Fmt.{decimal_by_steps}
@@ -17,14 +19,14 @@ use Rattle.oil_grammar.specs.Layout.{quoted_layout, sign_layout, value_layout}
 use Rattle.oil_grammar.proofs.GapSteps.{piece_none}
 use Rattle.oil_grammar.proofs.Numerals.{digit_step, with_room_small}
 use Rattle.oil_grammar.proofs.Shorter.{digit_is_numeral}
-use Rattle.oil_grammar.proofs.Proper.{one_more, Every, is_text_byte, IsName, IsProper}
+use Rattle.oil_grammar.proofs.Proper.{letter_passes, Every, is_text_byte, IsName, IsProper}
 
 -- the bytes that pass, before one that doesn't
 pub prefix_every : (p : ℕ → Bool) (bytes : List ℕ) (c : ℕ) (rest : List ℕ) → Every p bytes → p c ≡ false → prefix_len p (bytes ++ c ∷ rest) ≡ length bytes
 prefix_every p [] c rest all stops = rw stops refl
 prefix_every p (b ∷ bytes) c rest all stops =
     let more : prefix_len p (bytes ++ c ∷ rest) ≡ length bytes = prefix_every p bytes c rest all.1 stops in
-    rw (all.0, one_more) (ap suc more)
+    rw (all.0, one-add) (ap suc more)
 
 -- a byte that begins a token is no gap
 first_byte : (b : ℕ) (rest : List ℕ) → (b == 47) ≡ false → is_white b ≡ false → after_gap false between (b ∷ rest) ≡ Ok (b ∷ rest)
@@ -57,9 +59,6 @@ name_read : (name : List ℕ) (c : ℕ) (rest : List ℕ) → Every is_name_byte
 name_read name c rest all stops =
     ap (λ n. Ok (token.Name n, drop (prefix_len is_name_byte (name ++ c ∷ rest)) (name ++ c ∷ rest))) (taken_all is_name_byte name c rest all stops)
     ∙ ap (λ after. Ok (token.Name name, after)) (left_behind is_name_byte name c rest all stops)
-
-letter_passes : (b : ℕ) → is_letter b ≡ true → is_name_byte b ≡ true
-letter_passes b is = rw is refl
 
 pub first_name : (name : List ℕ) (c : ℕ) (rest : List ℕ) → IsName name → is_name_byte c ≡ false → first_in false (name ++ c ∷ rest) ≡ found (token.Name name) (name ++ c ∷ rest) (c ∷ rest)
 first_name name c rest is stops =
@@ -155,15 +154,11 @@ more_digits n digits le are =
 decimal_digits : (n : ℕ) → n < 2 ^ 64 → Digits n (decimal n)
 decimal_digits n room = decimal_by_steps (λ n digits. Digits n digits) one_digit more_digits n room
 
-and_false : (b : Bool) → (b && false) ≡ false
-and_false true = refl
-and_false false = refl
-
 no_hexadecimal : (first : ℕ) (others : List ℕ) → Every is_digit others → is_hexadecimal (first ∷ others) ≡ false
-no_hexadecimal first [] all = and_false (first == 48)
+no_hexadecimal first [] all = and-false (first == 48)
 no_hexadecimal first (b ∷ others) all =
     let no : ((b == 120) || (b == 88)) ≡ false = no_radix b all.0 in
-    rw no (and_false (first == 48))
+    rw no (and-false (first == 48))
   where
     no_radix : (b : ℕ) → is_digit b ≡ true → ((b == 120) || (b == 88)) ≡ false
     no_radix b is = grind (arith, nat_tests)
