@@ -4,6 +4,7 @@ use Rattle.std.specs.Prelude.{codes, nat_lt}
 use Rattle.std.specs.Str.{bytes_eq}
 use Rattle.std.proofs.lemmas.Bool.Decides.{nat_tests}
 use Rattle.std.proofs.lemmas.Bool.{false_from_ne_true}
+use Rattle.std.proofs.lemmas.List.{append-nil}
 use Rattle.std.proofs.lemmas.Slice.Eq.{bytes_eq-Decides}
 use Rattle.oil_grammar.specs.Grammar.{Block, empty, plain, braced, WrittenObject, Braces, none, some, Implementation, File, ending, value_token, block_tokens, braces_tokens, objects_tokens, skipped_tokens, implementation_tokens, cpu_tokens, file_tokens, IsNoWord, IsValue, IsBracedValue, IsBlock, IsObjectBlock, AreObjects, IsFile, attributes_of, braces_attributes, objects_of, tree_of}
 use Rattle.oil_grammar.specs.States.{with_object, with_attribute, after_part, word_value, after_value, next, run}
@@ -21,10 +22,6 @@ use Rattle.oil_grammar.specs.declared.state.State.TheVariants.{Start, Ending, He
 -- the object with more attributes
 abbrev pub adding : Object → List Attribute → Object
 adding object attributes = record { kind = object.kind; name = object.name; attributes = object.attributes ++ attributes }
-
-pub append-nil : {X : Type 0} (xs : List X) → xs ++ [] ≡ xs
-append-nil [] = refl
-append-nil (x ∷ xs) = ap (λ ys. x ∷ ys) (append-nil xs)
 
 pub adding-nil : (object : Object) → adding object [] ≡ object
 adding-nil object = ap (λ xs. record { kind = object.kind; name = object.name; attributes = xs }) (append-nil object.attributes)

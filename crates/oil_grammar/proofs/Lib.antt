@@ -8,4 +8,11 @@ pub mod Texts
 pub mod Depths
 pub mod Shorter
 pub mod Reached
+pub mod Proper
+pub mod Spelled
+pub mod Lines
+pub mod Bare
+pub mod BlockLines
+pub mod Again
+pub mod OneFault
 pub mod Worked

@@ -19,11 +19,11 @@ use Rattle.oil_grammar.proofs.Places.{same_mode}
 use Rattle.oil_grammar.proofs.Viable.{one_more}
 use Rattle.oil_grammar.proofs.Texts.{begin_more, no_tree, fault_here, text_here}
 
-tree_some : (state : State) (tree : Tree) → tree_at state ≡ Some tree → state ≡ Finished tree
+pub tree_some : (state : State) (tree : Tree) → tree_at state ≡ Some tree → state ≡ Finished tree
 tree_some (Finished done) tree is = let same : done ≡ tree = cc in ap Finished same
 tree_some _ tree is = absurd (cc)
 
-tree_none : (state : State) → tree_at state ≡ None → (tree : Tree) → state ≡ Finished tree → ⊥
+pub tree_none : (state : State) → tree_at state ≡ None → (tree : Tree) → state ≡ Finished tree → ⊥
 tree_none state none tree is = let some : tree_at state ≡ Some tree = ap (λ s. tree_at s) is in absurd (cc (sym none ∙ some))
 
 pub ended_advances : (state : State) (rest : List ℕ) (a : Advance) → first_in (is_skipping state) rest ≡ ended → EndsAs state a → Advances state rest a

@@ -45,7 +45,7 @@ gap_shorter skips w (b ∷ rest) left is =
 
 -- Tokens.
 
-pick : {X : Type 0} (P : X → Type 0) (b : Bool) (x y : X) → (b ≡ true → P x) → (b ≡ false → P y) → P (if b then x else y)
+pub pick : {X : Type 0} (P : X → Type 0) (b : Bool) (x y : X) → (b ≡ true → P x) → (b ≡ false → P y) → P (if b then x else y)
 pick P true x y then_is else_is = then_is refl
 pick P false x y then_is else_is = else_is refl
 
@@ -70,7 +70,7 @@ unfolding LeavesUpTo
 given_shorter negative after None n le = tt
 given_shorter negative after (Some size) n le = le
 
-digit_is_numeral : (b : ℕ) → is_digit b ≡ true → is_numeral_byte b ≡ true
+pub digit_is_numeral : (b : ℕ) → is_digit b ≡ true → is_numeral_byte b ≡ true
 digit_is_numeral b is = any (is_letter b) (is_digit b) (b == 46) is
   where
     any : (x y z : Bool) → y ≡ true → ((x || y) || z) ≡ true
@@ -101,7 +101,7 @@ skipped_shorter : (b : ℕ) (rest : List ℕ) → LeavesUpTo (length rest) (skip
 unfolding LeavesUpTo
 skipped_shorter b rest = omega arith
 
-pick_five : {X : Type 0} (P : X → Type 0) (b c d e f : Bool) (v w x y z u : X) → (b ≡ true → P v) → (c ≡ true → P w) → P x → P y → P z → P u → P (if b then v else (if c then w else (if d then x else (if e then y else (if f then z else u)))))
+pub pick_five : {X : Type 0} (P : X → Type 0) (b c d e f : Bool) (v w x y z u : X) → (b ≡ true → P v) → (c ≡ true → P w) → P x → P y → P z → P u → P (if b then v else (if c then w else (if d then x else (if e then y else (if f then z else u)))))
 pick_five P b c d e f v w x y z u at_b at_c at_d at_e at_f otherwise =
     pick P b v _ at_b (λ _. pick P c w _ at_c (λ _. pick P d x _ (λ _. at_d) (λ _. pick P e y _ (λ _. at_e) (λ _. pick P f z u (λ _. at_f) (λ _. otherwise)))))
 

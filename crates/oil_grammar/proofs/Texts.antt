@@ -22,10 +22,10 @@ use Rattle.oil_grammar.proofs.Places.{same_mode, goes_on_within, is_kind}
 
 -- One way to read.
 
-token_inj : {a b : Token} {f g x y : List ℕ} → found a f x ≡ found b g y → (a ≡ b) × (x ≡ y)
+pub token_inj : {a b : Token} {f g x y : List ℕ} → found a f x ≡ found b g y → (a ≡ b) × (x ≡ y)
 token_inj same = (cc, cc)
 
-next_finished : (limit : ℕ) (tree : Tree) (t : Token) → next limit (Finished tree) t ≡ None
+pub next_finished : (limit : ℕ) (tree : Tree) (t : Token) → next limit (Finished tree) t ≡ None
 unfolding next
 next_finished limit tree (token.Name name) = refl
 next_finished limit tree (token.Number negative size) = refl
@@ -43,7 +43,7 @@ record Longer (xs ys : List Token) (left end : List ℕ) : Type 0 where
   same : ys ≡ xs ++ more
   begin : BeginWith more left end
 
-cons_run : (limit : ℕ) (state end : State) (t : Token) (tokens : List Token) → run limit state (t ∷ tokens) ≡ Some end → (after : State) × (next limit state t ≡ Some after) × (run limit after tokens ≡ Some end)
+pub cons_run : (limit : ℕ) (state end : State) (t : Token) (tokens : List Token) → run limit state (t ∷ tokens) ≡ Some end → (after : State) × (next limit state t ≡ Some after) × (run limit after tokens ≡ Some end)
 unfolding run
 cons_run limit state end t tokens is = parts (next limit state t) is
   where
@@ -51,11 +51,11 @@ cons_run limit state end t tokens is = parts (next limit state t) is
     parts None e = absurd (cc)
     parts (Some s) e = (s, refl, e)
 
-nil_run : (limit : ℕ) (state end : State) → run limit state [] ≡ Some end → state ≡ end
+pub nil_run : (limit : ℕ) (state end : State) → run limit state [] ≡ Some end → state ≡ end
 unfolding run
 nil_run limit state end is = cc
 
-some_same : {a b : State} → Some a ≡ Some b → a ≡ b
+pub some_same : {a b : State} → Some a ≡ Some b → a ≡ b
 some_same same = cc
 
 -- tokens that some states go over begin all the tokens of a file in the same bytes
@@ -80,12 +80,12 @@ longer limit state after tree (x ∷ xs) (y ∷ ys) bytes left end begin is all 
 
 -- What blocks a state can be neither the end nor a token that leads on.
 
-blocks_end : (state : State) (tree : Tree) (first : First) (kind : OilKind) (place : List ℕ) → Blocks state first kind place → first ≡ ended → state ≡ Finished tree → ⊥
+pub blocks_end : (state : State) (tree : Tree) (first : First) (kind : OilKind) (place : List ℕ) → Blocks state first kind place → first ≡ ended → state ≡ Finished tree → ⊥
 blocks_end state tree ended kind place blocks is done = blocks.0 tree done
 blocks_end state tree (bad why from) kind place blocks is done = absurd (cc)
 blocks_end state tree (found t from after) kind place blocks is done = absurd (cc)
 
-blocks_token : (state next_state : State) (t : Token) (from after : List ℕ) (first : First) (kind : OilKind) (place : List ℕ) → Blocks state first kind place → first ≡ found t from after → next depth_limit state t ≡ Some next_state → ⊥
+pub blocks_token : (state next_state : State) (t : Token) (from after : List ℕ) (first : First) (kind : OilKind) (place : List ℕ) → Blocks state first kind place → first ≡ found t from after → next depth_limit state t ≡ Some next_state → ⊥
 blocks_token state next_state t from after ended kind place blocks is leads = absurd (cc)
 blocks_token state next_state t from after (bad why start) kind place blocks is leads = absurd (cc)
 blocks_token state next_state t from after (found u start rest) kind place blocks is leads =

@@ -59,6 +59,13 @@ pub record IsFaultOf (bytes : List ℕ) (line : ℕ) (kind : OilKind) : Type 0 w
   pub fails : FailsWith tokens (first_in skips left) kind place
   pub on_line : line ≡ line_of bytes (length place)
 
+-- some tree has the text
+abbrev pub HasTree : List ℕ → Type 0
+HasTree bytes = (tree : Tree) × IsTextOf tree bytes
+
+abbrev pub HasFault : List ℕ → Type 0
+HasFault bytes = (line : ℕ) × (kind : OilKind) × IsFaultOf bytes line kind
+
 -- no tree has the text
 abbrev pub HasNoTree : List ℕ → Type 0
 HasNoTree bytes = (tree : Tree) → IsTextOf tree bytes → ⊥

@@ -14,16 +14,23 @@ margin level = replicate (2 * level) 32
 abbrev pub quoted_layout : List ℕ → List ℕ
 quoted_layout text = 34 ∷ (text ++ (34 ∷ []))
 
+-- `-` before a number that has a sign
+abbrev pub sign_layout : Bool → List ℕ
+sign_layout negative = if negative then codes "-" else []
+
+abbrev pub bool_layout : Bool → List ℕ
+bool_layout b = if b then codes "TRUE" else codes "FALSE"
+
 abbrev pub value_layout : Value → List ℕ
 value_layout (value.Name name) = name
-value_layout (value.Number negative size) = (if negative then (45 ∷ []) else []) ++ decimal size
+value_layout (value.Number negative size) = sign_layout negative ++ decimal size
 value_layout (value.Text text) = quoted_layout text
-value_layout (value.Bool b) = if b then codes "TRUE" else codes "FALSE"
+value_layout (value.Bool b) = bool_layout b
 value_layout value.Auto = codes "AUTO"
 
 -- ` {` or `;`, and the end of the line
 abbrev pub line_end : Bool → List ℕ
-line_end opens = (if opens then codes " {" else codes ";") ++ (10 ∷ [])
+line_end opens = if opens then codes " {\n" else codes ";\n"
 
 -- the line of an attribute; the processor's own level stands outside of that of its objects
 abbrev pub attribute_line : Attribute → List ℕ
@@ -31,7 +38,7 @@ attribute_line a = margin (a.level + 1) ++ (a.name ++ (codes " = " ++ (value_lay
 
 -- the line that ends a block so many levels deep
 abbrev pub closing_line : ℕ → List ℕ
-closing_line level = margin level ++ (codes "};" ++ (10 ∷ []))
+closing_line level = margin level ++ codes "};\n"
 
 -- the ends of so many blocks, the innermost of which is so many levels deep
 unfoldable pub closing_lines : ℕ → ℕ → List ℕ
@@ -54,7 +61,11 @@ unfoldable pub objects_lines : List Object → List ℕ
 objects_lines [] = []
 objects_lines (object ∷ others) = object_lines object ++ objects_lines others
 
+abbrev pub version_line : Tree → List ℕ
+version_line tree = codes "OIL_VERSION = " ++ (quoted_layout tree.version ++ line_end false)
+
+abbrev pub cpu_line : Tree → List ℕ
+cpu_line tree = codes "CPU " ++ (tree.cpu ++ line_end true)
+
 abbrev pub layout_of : Tree → List ℕ
-layout_of tree =
-    codes "OIL_VERSION = " ++ (quoted_layout tree.version ++ (line_end false ++
-    (codes "CPU " ++ (tree.cpu ++ (line_end true ++ (objects_lines tree.objects ++ closing_line 0))))))
+layout_of tree = version_line tree ++ (cpu_line tree ++ (objects_lines tree.objects ++ closing_line 0))

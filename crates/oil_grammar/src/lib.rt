@@ -11,11 +11,13 @@ mod reading;
 mod state;
 mod token;
 mod tree;
+mod writing;
 
 pub use fault::{OilFault, OilKind};
 pub use listed::Memory;
-pub use reading::{one_tree, read_oil};
+pub use reading::{one_fault, one_tree, read_oil, tree_or_fault};
 pub use tree::{Attribute, Attributes, Bytes, Name, Object, Objects, Tree, Value};
+pub use writing::write_oil;
 
 #[cfg(test)]
 mod tests;

@@ -76,3 +76,75 @@ fn a_vendor_text_is_read(rt: HostRuntime) -> Result<(), Fail> {
     );
     Ok(())
 }
+
+/// The lines, each with a newline.
+fn text_of(alloc: Global, lines: &[&str]) -> Result<Vec<u8>, Fail> {
+    let mut text = Vec::new(alloc);
+    for line in lines {
+        text.extend_from_slice(line.as_bytes())?;
+        text.push(b'\n')?;
+    }
+    Ok(text)
+}
+
+/// The layout of the tree of a text.
+fn written(alloc: Global, text: &[u8]) -> Result<Bytes, Fail> {
+    let tree = read_oil(alloc, text).ok().ok_or("the text has a tree")?;
+    let layout = write_oil(alloc, &tree).ok().ok_or("there is memory")?;
+    Ok(layout)
+}
+
+#[test]
+fn each_level_is_two_spaces_deep_and_each_object_has_braces(rt: HostRuntime) -> Result<(), Fail> {
+    let alloc = rt.alloc();
+    let text =
+        b"OIL_VERSION=\"2.5\":\"v\";IMPLEMENTATION X{{}};CPU C{TASK T{PRIORITY=10:\"p\";AUTOSTART=TRUE{APPMODE=M{NAME=\"a ; b\";};LIMIT=AUTO;};}:\"d\";COUNTER K;RESOURCE R{P=FALSE{};};};";
+    let lines = [
+        "OIL_VERSION = \"2.5\";",
+        "CPU C {",
+        "  TASK T {",
+        "    PRIORITY = 10;",
+        "    AUTOSTART = TRUE {",
+        "      APPMODE = M {",
+        "        NAME = \"a ; b\";",
+        "      };",
+        "      LIMIT = AUTO;",
+        "    };",
+        "  };",
+        "  COUNTER K {",
+        "  };",
+        "  RESOURCE R {",
+        "    P = FALSE {",
+        "    };",
+        "  };",
+        "};",
+    ];
+    let expected = text_of(alloc, &lines)?;
+    assert_eq!(rt; written(alloc, text)?.as_slice(), expected.as_slice());
+    Ok(())
+}
+
+#[test]
+fn numbers_are_written_in_decimal_and_keep_their_signs(rt: HostRuntime) -> Result<(), Fail> {
+    let alloc = rt.alloc();
+    let text =
+        b"OIL_VERSION=\"\"; CPU C { A B { P = 0xfF; Q = -7; R = +007; S = -0; T = -0X10; U = X { V = 18446744073709551615; }; }; };";
+    let lines = [
+        "OIL_VERSION = \"\";",
+        "CPU C {",
+        "  A B {",
+        "    P = 255;",
+        "    Q = -7;",
+        "    R = 7;",
+        "    S = -0;",
+        "    T = -16;",
+        "    U = X {",
+        "      V = 18446744073709551615;",
+        "    };",
+        "  };",
+        "};",
+    ];
+    let expected = text_of(alloc, &lines)?;
+    assert_eq!(rt; written(alloc, text)?.as_slice(), expected.as_slice());
+    Ok(())
+}
