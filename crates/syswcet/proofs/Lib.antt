@@ -5,5 +5,6 @@ pub mod LoneLaws
 pub mod CheckLoneLaws
 pub mod OutcomeLaws
 pub mod BoundLoneLaws
+pub mod ShowOilLaws
 pub mod RunLaws
 pub mod ReadLaws

@@ -5,18 +5,20 @@ use Rattle.wcet_io.specs.Sink.{appended}
 use Rattle.syswcet.specs.declared.status.Status.{Status}
 use Rattle.syswcet.specs.declared.status.Status.TheVariants as status
 use Rattle.syswcet.specs.declared.words.Command.{Command}
-use Rattle.syswcet.specs.declared.words.Command.TheVariants.{CheckLone, BoundLone}
+use Rattle.syswcet.specs.declared.words.Command.TheVariants.{CheckLone, BoundLone, ShowOil}
 use Rattle.syswcet.specs.Reports.{AnswerData, words_answer}
 use Rattle.syswcet.specs.Words.{command_of, word}
-use Rattle.syswcet.specs.Run.{Reads, HasAnswer, IsCommandAnswer, Writing, Ends, YesBounds, GreatestBounds}
+use Rattle.syswcet.specs.Run.{Reads, HasAnswer, IsCommandAnswer, Writing, Ends, YesBounds, GreatestBounds, WritesLayout}
 use Rattle.syswcet.proofs.LoneLaws.{IsOwn, own_as}
 use Rattle.syswcet.proofs.CheckLoneLaws.{own_check_lone, YesAnswer, yes_check_lone}
 use Rattle.syswcet.proofs.BoundLoneLaws.{own_bound_lone, BoundAnswer, ok_bound_lone}
+use Rattle.syswcet.proofs.ShowOilLaws.{own_show_oil, ok_show_oil}
 
 own_command : (told : List ℕ → Option (List ℕ)) (words : List (List ℕ)) (command : Option Command) (made : AnswerData) → IsCommandAnswer told words command made → IsOwn made.status
 own_command told words None made is = own_as made words_answer is tt
 own_command told words (Some CheckLone) made is = own_check_lone told (word words 2) (word words 3) made is
 own_command told words (Some (BoundLone pivots)) made is = own_bound_lone pivots told (word words 2) (word words 3) made is
+own_command told words (Some ShowOil) made is = own_show_oil told (word words 2) made is
 
 -- a status with which the whole text is written
 abbrev IsWritten : Status → Type 0
@@ -86,6 +88,13 @@ pub bound_whole : (reads : Reads) (writing : Writing) (words : List (List ℕ)) 
 bound_whole reads writing words made pivots has whole ok is_command =
     let found : BoundAnswer (reads.told (word words 2)) made = ok_bound_lone pivots reads.told (word words 2) (word words 3) made (answered_ok reads words (BoundLone pivots) made has ok is_command) ok in
     (found.bound, whole ∙ ap (appended writing.held) found.text, found.bounds)
+
+-- status Ok of `show oil`
+pub layout_whole : (reads : Reads) (writing : Writing) (words : List (List ℕ)) (made : AnswerData) → HasAnswer reads words made
+    → writing.holds ≡ appended writing.held made.text → made.status ≡ status.Ok → command_of words ≡ Some ShowOil
+    → WritesLayout reads writing (word words 2)
+layout_whole reads writing words made has whole ok is_command = λ bytes tells.
+    (made.text, ok_show_oil reads.told (word words 2) made (answered_ok reads words ShowOil made has ok is_command) ok bytes tells, whole)
 
 -- ---- faults rose where they are answered
 

@@ -7,4 +7,5 @@ pub mod CheckLone
 pub mod Outcomes
 pub mod BoundLone
 pub mod Lone
+pub mod ShowOil
 pub mod Run

@@ -67,6 +67,6 @@ solved_answer task (Err (Multiplier value)) = Some (multiplier_answer value)
 solved_answer task (Err Memory) = None
 
 -- the lines of the ray 1, 0, 2
-ray_case : ray_lines 0 (pos 1 ∷ pos 0 ∷ pos 2 ∷ []) ≡ ray_line 0 (pos 1) ++ ray_line 2 (pos 2) ++ []
+ray_case : ray_lines 0 (pos 1 ∷ pos 0 ∷ pos 2 ∷ []) ≡ ray_line 0 (pos 1) ++ (ray_line 2 (pos 2) ++ [])
 unfolding ray_lines
 ray_case = refl

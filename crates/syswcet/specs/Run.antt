@@ -6,13 +6,14 @@ use Rattle.wcet_io.specs.Sink.{appended, AppendsPrefix}
 use Rattle.syswcet.specs.declared.status.Status.{Status}
 use Rattle.syswcet.specs.declared.status.Status.TheVariants.{WriteFault, Memory}
 use Rattle.syswcet.specs.declared.words.Command.{Command}
-use Rattle.syswcet.specs.declared.words.Command.TheVariants.{CheckLone, BoundLone}
+use Rattle.syswcet.specs.declared.words.Command.TheVariants.{CheckLone, BoundLone, ShowOil}
 use Rattle.syswcet.specs.Reports.{AnswerData, words_answer, read_answer}
 use Rattle.syswcet.specs.Words.{command_of, word}
 use Rattle.syswcet.specs.LoneFiles.{lone_task, BoundsImage}
 use Rattle.syswcet.specs.CheckLone.{IsCheckLoneAnswer, yes_text}
 use Rattle.syswcet.specs.Outcomes.{bound_answer}
 use Rattle.syswcet.specs.BoundLone.{IsBoundLoneAnswer, IsGreatestOfImage}
+use Rattle.syswcet.specs.ShowOil.{IsShowOilAnswer, ShowsLayout}
 
 -- What the object that reads files tells around a call: the bytes that names hold, the count of
 -- faults before and after the call, and the name of the last read that failed.
@@ -27,6 +28,7 @@ abbrev pub files_of : Option Command → List (List ℕ) → List (List ℕ)
 files_of None words = []
 files_of (Some CheckLone) words = word words 2 ∷ word words 3 ∷ []
 files_of (Some (BoundLone pivots)) words = word words 2 ∷ word words 3 ∷ []
+files_of (Some ShowOil) words = word words 2 ∷ []
 
 -- One of the named files could not be read: a read of it failed.
 pub record IsReadFault (reads : Reads) (names : List (List ℕ)) (made : AnswerData) : Type 0 where
@@ -45,6 +47,7 @@ abbrev pub IsCommandAnswer : (List ℕ → Option (List ℕ)) → List (List ℕ
 IsCommandAnswer told words None made = made ≡ words_answer
 IsCommandAnswer told words (Some CheckLone) made = IsCheckLoneAnswer told (word words 2) (word words 3) made
 IsCommandAnswer told words (Some (BoundLone pivots)) made = IsBoundLoneAnswer pivots told (word words 2) (word words 3) made
+IsCommandAnswer told words (Some ShowOil) made = IsShowOilAnswer told (word words 2) made
 
 abbrev pub HasAnswer : Reads → List (List ℕ) → AnswerData → Type 0
 HasAnswer reads words made =
@@ -82,3 +85,8 @@ abbrev pub GreatestBounds : Reads → Writing → List ℕ → Type 0
 GreatestBounds reads writing image =
     (bound : ℕ) × (writing.holds ≡ appended writing.held (bound_answer lone_task bound).text)
     × ((bytes : List ℕ) → Told (reads.told image) bytes → IsGreatestOfImage bytes bound × BoundsImage bytes bound)
+
+-- Where `show oil` wrote a layout, it is that of the tree that the told file has, and the tree stands for a system.
+abbrev pub WritesLayout : Reads → Writing → List ℕ → Type 0
+WritesLayout reads writing name =
+    (bytes : List ℕ) → Told (reads.told name) bytes → (text : List ℕ) × ShowsLayout bytes text × (writing.holds ≡ appended writing.held text)

@@ -5,7 +5,7 @@ use Rattle.std.specs.List.{list_all}
 use Rattle.std.specs.Option.{option_map}
 use Rattle.std.specs.Str.Parse.{digits_value}
 use Rattle.syswcet.specs.declared.words.Command.{Command}
-use Rattle.syswcet.specs.declared.words.Command.TheVariants.{CheckLone, BoundLone}
+use Rattle.syswcet.specs.declared.words.Command.TheVariants.{CheckLone, BoundLone, ShowOil}
 
 -- the word at a place, counted from 0
 abbrev pub word : List (List ℕ) → ℕ → List ℕ
@@ -37,13 +37,15 @@ usual_pivots = 100000
 --
 --   check lone IMAGE CERT
 --   bound lone IMAGE STATES [--pivots N]
+--   show oil OIL
 abbrev pub command_of : List (List ℕ) → Option Command
 command_of words =
     if is_shape words (codes "check") (codes "lone") 4 then Some CheckLone
     else (if is_shape words (codes "bound") (codes "lone") 4 then Some (BoundLone usual_pivots)
     else (if is_shape words (codes "bound") (codes "lone") 6 && bytes_eq (word words 4) (codes "--pivots")
     then option_map (λ pivots. BoundLone pivots) (pivots_of (word words 5))
-    else None))
+    else (if is_shape words (codes "show") (codes "oil") 3 then Some ShowOil
+    else None)))
 
 check_lone_case : command_of (codes "check" ∷ codes "lone" ∷ codes "a" ∷ codes "c" ∷ []) ≡ Some CheckLone
 check_lone_case = refl
@@ -59,3 +61,6 @@ pivots_case = refl
 
 no_pivots_case : command_of (codes "bound" ∷ codes "lone" ∷ codes "a" ∷ codes "k" ∷ codes "--pivots" ∷ codes "0" ∷ []) ≡ None
 no_pivots_case = refl
+
+show_oil_case : command_of (codes "show" ∷ codes "oil" ∷ codes "lone" ∷ []) ≡ Some ShowOil
+show_oil_case = refl

@@ -90,6 +90,13 @@ impl Answer {
         }
     }
 
+    /// The status with these bytes.
+    pub(crate) fn of_bytes(status: Status, text: Vec<u8>) -> Answer
+        ensures { result ≡ record { status = status; text = text.items } }
+    {
+        Answer { status, text }
+    }
+
     /// The status with this text.
     pub(crate) fn made(status: Status, text: String) -> Answer
         ensures { result ≡ record { status = status; text = string_bytes text } }

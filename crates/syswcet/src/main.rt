@@ -8,6 +8,7 @@ mod lone;
 mod outcome;
 mod report;
 mod run;
+mod show_oil;
 mod status;
 mod words;
 

@@ -2,11 +2,12 @@
 ghost use Rattle.std.specs.Prelude.{◌≡◌, ◌≢◌, ℕ, List, Ok, Some, IfOk};
 ghost use Rattle.wcet_io.specs.Causes.{Rose};
 ghost use Rattle.syswcet.specs.Words.{command_of, word};
-ghost use Rattle.syswcet.specs.Run.{HasAnswer, Ends, YesBounds, GreatestBounds};
+ghost use Rattle.syswcet.specs.Run.{HasAnswer, Ends, YesBounds, GreatestBounds, WritesLayout};
 
 use crate::answer::Answer;
 use crate::lone::{Question, lone};
 use crate::report::write_text;
+use crate::show_oil::show_oil;
 use crate::status::Status;
 use crate::words::{Command, command_of};
 use listed::Memory;
@@ -32,6 +33,11 @@ pub fn run<F: Files, O: Sink>(alloc: Global, words: &Words, files: &mut F, out: 
         (word words.now 2) }
     // Where `bound lone` wrote a bound, it is the greatest value of the image's rows, and no activation lasts longer.
     ensures bound_lone_bounds { (pivots : ℕ) → result ≡ Status.Ok → command_of words.now ≡ Some (Command.BoundLone pivots) → GreatestBounds
+        (record { told = F.told files.old; before = F.faults files.old; after = F.faults files.new; failed = F.failed files.new })
+        (record { held = O.written out.old; holds = O.written out.new; before = O.faults out.old; after = O.faults out.new })
+        (word words.now 2) }
+    // Where `show oil` ended with status 0, it wrote the layout of the tree that the file has.
+    ensures show_oil_layout { result ≡ Status.Ok → command_of words.now ≡ Some Command.ShowOil → WritesLayout
         (record { told = F.told files.old; before = F.faults files.old; after = F.faults files.new; failed = F.failed files.new })
         (record { held = O.written out.old; holds = O.written out.new; before = O.faults out.old; after = O.faults out.new })
         (word words.now 2) }
@@ -75,5 +81,6 @@ fn answer<F: Files>(alloc: Global, words: &Words, files: &mut F) -> Result<Answe
                 files,
             )
         }
+        Some(Command::ShowOil) => show_oil(alloc, words.get(2), files),
     }
 }

@@ -19,6 +19,8 @@ pub enum Command {
     /// `bound lone IMAGE STATES` finds the greatest value of the rows of a lone image, with at most
     /// that many pivots, which `--pivots N` sets.
     BoundLone { pivots: u32 },
+    /// `show oil OIL` writes an OIL file in the one layout.
+    ShowOil,
 }
 
 /// The command of the words; `None` exactly where they have no shape.
@@ -36,6 +38,9 @@ pub fn command_of(words: &Words) -> Option<Command>
     if is_shape(words, "bound", "lone", 6) && is(words.get(4), "--pivots") {
         let pivots = pivots_of(words.get(5))?;
         return Some(Command::BoundLone { pivots });
+    }
+    if is_shape(words, "show", "oil", 3) {
+        return Some(Command::ShowOil);
     }
     None
 }
