@@ -1,0 +1,15 @@
+//! The systems that OIL trees stand for: tasks, interrupt service routines, resources with their
+//! ceilings, alarms, counters and application modes.
+//!
+//! `model` gives the system of a tree, or the first object that breaks a rule and the least kind of
+//! what it breaks. `lone_system` is the system of one task.
+#![tactic(auto)]
+
+mod fault;
+mod system;
+
+pub use fault::{ModelFault, ModelKind};
+pub use listed::Memory;
+pub use system::{
+    Alarm, Alarms, Ids, Isr, Isrs, Name, Names, Resource, Resources, System, Task, Tasks,
+};
