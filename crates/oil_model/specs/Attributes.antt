@@ -1,7 +1,7 @@
 -- Where attributes stand. The attributes of an object are one list: those of level 1 are its own, and the
 -- block of one of them is the attributes directly after it of greater levels.
-use Rattle.std.specs.Prelude.{ℕ, ◌==◌, ◌&&◌, nat_lt, Bool, false, List, [], ◌∷◌, Option, Some, None, option_map, count_by, find, take_while, bytes_eq, if◌then◌else◌}
-use Rattle.std.specs.List.{list_any}
+use Rattle.std.specs.Prelude.{ℕ, ◌==◌, ◌&&◌, nat_lt, nat_le, Bool, false, List, [], ◌∷◌, Option, Some, None, option_map, count_by, find, bytes_eq, if◌then◌else◌}
+use Rattle.std.specs.List.{list_any, before_first}
 use Rattle.oil_grammar.specs.declared.tree.Attribute.{Attribute}
 use Rattle.oil_grammar.specs.declared.tree.Value.{Value}
 use Rattle.oil_grammar.specs.declared.tree.Value.TheVariants as value
@@ -21,13 +21,13 @@ stands_again level name attributes = nat_lt 1 (count_by (is_at level name) attri
 abbrev pub first_value : ℕ → List ℕ → List Attribute → Option Value
 first_value level name attributes = option_map (λ a. a.value) (find (is_at level name) attributes)
 
-abbrev pub is_inner : Attribute → Bool
-is_inner a = nat_lt 1 a.level
+abbrev pub is_own : Attribute → Bool
+is_own a = nat_le a.level 1
 
 -- the block of the object's own attribute of this name, where it stands first; its own attributes have level 2
 unfoldable pub block : List ℕ → List Attribute → List Attribute
 block name [] = []
-block name (a ∷ attributes) = if is_at 1 name a then take_while is_inner attributes else block name attributes
+block name (a ∷ attributes) = if is_at 1 name a then before_first is_own attributes else block name attributes
 
 abbrev pub word_of : Value → Option (List ℕ)
 word_of (value.Name name) = Some name
@@ -52,10 +52,3 @@ is_true (Some (value.Number negative size)) = false
 is_true (Some (value.Text text)) = false
 is_true (Some (value.Bool b)) = b
 is_true (Some value.Auto) = false
-
-abbrev pub number_of : Value → Option (Bool × ℕ)
-number_of (value.Name name) = None
-number_of (value.Number negative size) = Some (negative, size)
-number_of (value.Text text) = None
-number_of (value.Bool b) = None
-number_of value.Auto = None

@@ -33,10 +33,13 @@ id_in ids (Some name) = ids name
 
 -- Numbers.
 
+abbrev pub size_in : ℕ → Bool → ℕ → Option ℕ
+size_in most negative size = if (not negative || (size == 0)) && nat_le size most then Some size else None
+
 -- a number from 0 to the most; `-0` is 0
 abbrev pub number_in : ℕ → Value → Option ℕ
 number_in most (value.Name name) = None
-number_in most (value.Number negative size) = if (not negative || (size == 0)) && nat_le size most then Some size else None
+number_in most (value.Number negative size) = size_in most negative size
 number_in most (value.Text text) = None
 number_in most (value.Bool b) = None
 number_in most value.Auto = None

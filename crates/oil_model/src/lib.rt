@@ -5,7 +5,9 @@
 //! what it breaks. `lone_system` is the system of one task.
 #![tactic(auto)]
 
+mod attribute;
 mod fault;
+mod reference;
 mod system;
 
 pub use fault::{ModelFault, ModelKind};
