@@ -88,11 +88,12 @@ start_rule within (value.Text text) = Some BadValue
 start_rule within (value.Bool b) = if b then within else None
 start_rule within value.Auto = Some Unsupported
 
+abbrev pub each_mode : List Object → List Attribute → Option ModelKind
+each_mode objects within = each (reference_rule (id_of (codes "APPMODE") objects)) 2 (codes "APPMODE") within
+
 -- one or more application modes in a block
 abbrev pub modes_rule : List Object → List Attribute → Option ModelKind
-modes_rule objects within =
-    if stands 2 (codes "APPMODE") within then each (reference_rule (id_of (codes "APPMODE") objects)) 2 (codes "APPMODE") within
-    else Some Missing
+modes_rule objects within = if stands 2 (codes "APPMODE") within then each_mode objects within else Some Missing
 
 -- TASK.
 

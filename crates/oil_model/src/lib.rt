@@ -8,6 +8,7 @@
 mod attribute;
 mod fault;
 mod reference;
+mod rule;
 mod system;
 
 pub use fault::{ModelFault, ModelKind};
