@@ -131,7 +131,7 @@ resources_rule objects own = each (reference_rule (resource_id objects)) 1 (code
 abbrev pub inner_rule : List Object → List Attribute → Option ModelKind
 inner_rule objects own = fault_if ((is_non_preemptable own && is_some (internal_of objects own)) || has_two_internal objects own) BadValue
 
-abbrev pub task_fault : List Object → List Attribute → Option ModelKind
+unfoldable pub task_fault : List Object → List Attribute → Option ModelKind
 task_fault objects own = least_of (
     priority_rule own
     ∷ (schedule_rule own
@@ -159,7 +159,7 @@ category_value value.Auto = Some Unsupported
 abbrev pub category_rule : List Attribute → Option ModelKind
 category_rule own = once (required category_value) 1 (codes "CATEGORY") own
 
-abbrev pub isr_fault : List Attribute → Option ModelKind
+unfoldable pub isr_fault : List Attribute → Option ModelKind
 isr_fault own = least_of (
     category_rule own
     ∷ (unsupported (codes "RESOURCE") own
@@ -169,17 +169,21 @@ isr_fault own = least_of (
 
 -- RESOURCE.
 
-abbrev pub property_value : Value → Option ModelKind
-property_value (value.Name name) =
+-- linked resources aren't taken
+abbrev pub property_word : List ℕ → Option ModelKind
+property_word name =
     if bytes_eq name (codes "STANDARD") || bytes_eq name (codes "INTERNAL") then None
     else (if bytes_eq name (codes "LINKED") then Some Unsupported
     else Some BadValue)
+
+abbrev pub property_value : Value → Option ModelKind
+property_value (value.Name name) = property_word name
 property_value (value.Number negative size) = Some BadValue
 property_value (value.Text text) = Some BadValue
 property_value (value.Bool b) = Some BadValue
 property_value value.Auto = Some Unsupported
 
-abbrev pub resource_fault : List Attribute → Option ModelKind
+unfoldable pub resource_fault : List Attribute → Option ModelKind
 resource_fault own = once (required property_value) 1 (codes "RESOURCEPROPERTY") own
 
 -- ALARM.
@@ -192,11 +196,14 @@ abbrev pub activated_rule : List Object → List Attribute → Option ModelKind
 activated_rule objects within = once (required (reference_rule (id_of (codes "TASK") objects))) 2 (codes "TASK") within
 
 -- ACTIVATETASK with a block of which this kind of fault holds; other actions aren't taken
-abbrev pub action_value : Option ModelKind → Value → Option ModelKind
-action_value within (value.Name name) =
+abbrev pub action_word : Option ModelKind → List ℕ → Option ModelKind
+action_word within name =
     if bytes_eq name (codes "ACTIVATETASK") then within
     else (if bytes_eq name (codes "SETEVENT") || bytes_eq name (codes "ALARMCALLBACK") then Some Unsupported
     else Some BadValue)
+
+abbrev pub action_value : Option ModelKind → Value → Option ModelKind
+action_value within (value.Name name) = action_word within name
 action_value within (value.Number negative size) = Some BadValue
 action_value within (value.Text text) = Some BadValue
 action_value within (value.Bool b) = Some BadValue
@@ -220,7 +227,7 @@ alarm_block_fault objects within = least_of (cycle_rule within ∷ (alarm_time_r
 abbrev pub alarm_start_rule : List Object → List Attribute → Option ModelKind
 alarm_start_rule objects own = once (optional (start_rule (alarm_block_fault objects (block (codes "AUTOSTART") own)))) 1 (codes "AUTOSTART") own
 
-abbrev pub alarm_fault : List Object → List Attribute → Option ModelKind
+unfoldable pub alarm_fault : List Object → List Attribute → Option ModelKind
 alarm_fault objects own = least_of (counter_rule objects own ∷ (action_rule objects own ∷ (alarm_start_rule objects own ∷ [])))
 
 -- COUNTER.
@@ -235,7 +242,7 @@ count_value value.Auto = Some Unsupported
 abbrev pub count_rule : List ℕ → List Attribute → Option ModelKind
 count_rule name own = once (optional count_value) 1 name own
 
-abbrev pub counter_fault : List Attribute → Option ModelKind
+unfoldable pub counter_fault : List Attribute → Option ModelKind
 counter_fault own = least_of (
     count_rule (codes "MAXALLOWEDVALUE") own
     ∷ (count_rule (codes "TICKSPERBASE") own
@@ -244,15 +251,20 @@ counter_fault own = least_of (
 
 -- Objects.
 
--- the rules of the object's attributes; OS and APPMODE have none
+-- the rules of an object without code; OS and APPMODE have none
+unfoldable pub plain_fault : Object → Option ModelKind
+plain_fault o =
+    if is_kind (codes "RESOURCE") o then resource_fault o.attributes
+    else (if is_kind (codes "COUNTER") o then counter_fault o.attributes
+    else fault_if (not (is_kind (codes "OS") o || is_kind (codes "APPMODE") o)) Unsupported)
+
+-- the rules of the object's attributes
 unfoldable pub rule_fault : List Object → Object → Option ModelKind
 rule_fault objects o =
     if is_kind (codes "TASK") o then task_fault objects o.attributes
     else (if is_kind (codes "ISR") o then isr_fault o.attributes
-    else (if is_kind (codes "RESOURCE") o then resource_fault o.attributes
     else (if is_kind (codes "ALARM") o then alarm_fault objects o.attributes
-    else (if is_kind (codes "COUNTER") o then counter_fault o.attributes
-    else fault_if (not (is_kind (codes "OS") o || is_kind (codes "APPMODE") o)) Unsupported))))
+    else plain_fault o))
 
 -- the kinds of objects that share one set of names
 abbrev pub has_code : Object → Bool

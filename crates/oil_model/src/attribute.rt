@@ -17,7 +17,9 @@ pub(crate) fn is_at(attribute: &Attribute, level: u8, name: &[u8]) -> bool
 pub(crate) fn stands(attributes: &[Attribute], level: u8, name: &[u8]) -> bool
     ensures { result ≡ words.stands level name.now attributes.now }
 {
-    attributes.iter().any(|attribute| is_at(attribute, level, name))
+    attributes
+        .iter()
+        .any(|attribute| is_at(attribute, level, name))
 }
 
 /// Whether the attribute stands twice or more.
@@ -32,7 +34,11 @@ pub(crate) fn stands_again(attributes: &[Attribute], level: u8, name: &[u8]) -> 
 }
 
 /// The value of the attribute where it stands first.
-pub(crate) fn first_value<'a>(attributes: &'a [Attribute], level: u8, name: &[u8]) -> Option<&'a Value>
+pub(crate) fn first_value<'a>(
+    attributes: &'a [Attribute],
+    level: u8,
+    name: &[u8],
+) -> Option<&'a Value>
     ensures { option_copied result ≡ words.first_value level name.now attributes.now }
 {
     let first = attributes
@@ -71,9 +77,7 @@ fn inner_part(attributes: &[Attribute]) -> &[Attribute]
 fn next_own(attributes: &[Attribute]) -> Option<usize>
     ensures { result ≡ position words.is_own attributes.now }
 {
-    attributes
-        .iter()
-        .position(|attribute| attribute.level <= 1)
+    attributes.iter().position(|attribute| attribute.level <= 1)
 }
 
 /// The name that the value is.

@@ -5,11 +5,15 @@
 //! what it breaks. `lone_system` is the system of one task.
 #![tactic(auto)]
 
+mod alarm_rules;
 mod attribute;
 mod fault;
+mod judge;
+mod object_rules;
 mod reference;
 mod rule;
 mod system;
+mod task_rules;
 
 pub use fault::{ModelFault, ModelKind};
 pub use listed::Memory;

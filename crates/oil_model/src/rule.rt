@@ -138,13 +138,7 @@ pub(crate) fn start_rule(value: Option<&Value>, within: Option<ModelKind>) -> Op
     ensures { result ≡ words.optional (words.start_rule within) (option_copied value.entry) }
 {
     match value {
-        Some(Value::Bool(starts)) => {
-            if *starts {
-                within
-            } else {
-                None
-            }
-        }
+        Some(Value::Bool(starts)) => { if *starts { within } else { None } }
         Some(value) => other_value(value),
         None => None,
     }
