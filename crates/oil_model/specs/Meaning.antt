@@ -76,30 +76,53 @@ abbrev pub id_named : List ℕ → List Object → Option Value → ℕ
 id_named kind objects None = 0
 id_named kind objects (Some v) = unwrap_or (id_in (id_of kind objects) (word_of v)) 0
 
+abbrev pub counter_of : List Object → List Attribute → ℕ
+counter_of objects own = id_named (codes "COUNTER") objects (first_value 1 (codes "COUNTER") own)
+
+-- the task of ACTIVATETASK
+abbrev pub activated_of : List Object → List Attribute → ℕ
+activated_of objects own = id_named (codes "TASK") objects (first_value 2 (codes "TASK") (block (codes "ACTION") own))
+
+abbrev pub cycle_of : List Attribute → ℕ
+cycle_of started = number_or_zero greatest_time (first_value 2 (codes "CYCLETIME") started)
+
 abbrev pub alarm_of : List Object → Object → Alarm
 alarm_of objects o = record {
-  name = o.name;
-  counter = id_named (codes "COUNTER") objects (first_value 1 (codes "COUNTER") o.attributes);
-  task = id_named (codes "TASK") objects (first_value 2 (codes "TASK") (block (codes "ACTION") o.attributes));
-  cycle = number_or_zero greatest_time (first_value 2 (codes "CYCLETIME") (start_block o.attributes));
-  modes = mode_ids objects (start_block o.attributes);
-}
+    name = o.name;
+    counter = counter_of objects o.attributes;
+    task = activated_of objects o.attributes;
+    cycle = cycle_of (start_block o.attributes);
+    modes = mode_ids objects (start_block o.attributes) }
+
+-- The lists of a system. Where two lists of objects are given, the names of the second stand for objects of
+-- the first.
+
+abbrev pub tasks_of : List Object → List Object → List Task
+tasks_of objects listed = map (task_of objects) (of_kind (codes "TASK") listed)
+
+abbrev pub isrs_of : List Object → List Isr
+isrs_of listed = map isr_of (of_kind (codes "ISR") listed)
+
+abbrev pub declared_of : List Object → List Object → List Resource
+declared_of objects listed = map (resource_of objects) (of_kind (codes "RESOURCE") listed)
+
+abbrev pub resources_of : List Object → List Resource
+resources_of objects = declared_of objects objects ++ scheduler_resource (top_priority objects) ∷ []
+
+abbrev pub alarms_of : List Object → List Object → List Alarm
+alarms_of objects listed = map (alarm_of objects) (of_kind (codes "ALARM") listed)
 
 abbrev pub names_of : List ℕ → List Object → List (List ℕ)
 names_of kind objects = map (λ o. o.name) (of_kind kind objects)
 
-abbrev pub resources_of : List Object → List Resource
-resources_of objects = map (resource_of objects) (of_kind (codes "RESOURCE") objects) ++ scheduler_resource (top_priority objects) ∷ []
-
 abbrev pub objects_system : List Object → System
 objects_system objects = record {
-  tasks = map (task_of objects) (of_kind (codes "TASK") objects);
-  isrs = map isr_of (of_kind (codes "ISR") objects);
-  resources = resources_of objects;
-  alarms = map (alarm_of objects) (of_kind (codes "ALARM") objects);
-  counters = names_of (codes "COUNTER") objects;
-  modes = names_of (codes "APPMODE") objects;
-}
+    tasks = tasks_of objects objects;
+    isrs = isrs_of objects;
+    resources = resources_of objects;
+    alarms = alarms_of objects objects;
+    counters = names_of (codes "COUNTER") objects;
+    modes = names_of (codes "APPMODE") objects }
 
 abbrev pub system_of : Tree → System
 system_of tree = objects_system tree.objects

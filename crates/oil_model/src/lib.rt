@@ -7,7 +7,9 @@
 
 mod alarm_rules;
 mod attribute;
+mod build;
 mod fault;
+mod ids;
 mod judge;
 mod object_rules;
 mod reference;
