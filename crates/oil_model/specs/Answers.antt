@@ -5,6 +5,7 @@ use Rattle.oil_model.specs.declared.fault.ModelFault.{ModelFault}
 use Rattle.oil_model.specs.declared.fault.ModelFault.TheVariants.{At, Memory}
 use Rattle.oil_model.specs.declared.fault.ModelKind.{ModelKind}
 use Rattle.oil_model.specs.declared.judge.Place.{Place}
+use Rattle.oil_model.specs.declared.system.Task.{Task}
 use Rattle.oil_model.specs.declared.system.System.{System}
 use Rattle.oil_model.specs.Meaning.{IsSystemOf, model_fault_of}
 
@@ -18,6 +19,9 @@ abbrev pub shown : Option Place → Option (ℕ × ModelKind)
 shown None = None
 shown (Some place) = Some (place.object, place.kind)
 
--- the task's id
+abbrev pub task_in : List Task → List ℕ → Option ℕ
+task_in tasks name = position (λ t. bytes_eq t.name name) tasks
+
+-- the id of the task of this name
 abbrev pub task_named : System → List ℕ → Option ℕ
-task_named system name = position (λ t. bytes_eq t.name name) system.tasks
+task_named system name = task_in system.tasks name

@@ -11,6 +11,9 @@ mod build;
 mod fault;
 mod ids;
 mod judge;
+mod lone;
+mod lookup;
+mod meaning;
 mod object_rules;
 mod reference;
 mod rule;
@@ -19,6 +22,9 @@ mod task_rules;
 
 pub use fault::{ModelFault, ModelKind};
 pub use listed::Memory;
+pub use lone::lone_system;
+pub use lookup::task_named;
+pub use meaning::model;
 pub use system::{
     Alarm, Alarms, Ids, Isr, Isrs, Name, Names, Resource, Resources, System, Task, Tasks,
 };
