@@ -9,3 +9,4 @@ pub mod Depths
 pub mod Shorter
 pub mod Reached
 pub mod Worked
+pub mod Named

@@ -7,6 +7,7 @@
 mod fault;
 mod first;
 mod gap;
+mod names;
 mod reading;
 mod state;
 mod token;
@@ -14,6 +15,7 @@ mod tree;
 
 pub use fault::{OilFault, OilKind};
 pub use listed::Memory;
+pub use names::well_formed_names;
 pub use reading::{one_tree, read_oil};
 pub use tree::{Attribute, Attributes, Bytes, Name, Object, Objects, Tree, Value};
 

@@ -5,4 +5,5 @@ pub mod Counts
 pub mod IdRanges
 pub mod Apart
 pub mod Steps
+pub mod Activations
 pub mod Worked
