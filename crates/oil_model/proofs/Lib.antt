@@ -6,4 +6,5 @@ pub mod IdRanges
 pub mod Apart
 pub mod Steps
 pub mod Activations
+pub mod Lawful
 pub mod Worked

@@ -1,16 +1,11 @@
 -- Which systems are lawful.
 use Rattle.std.specs.Prelude.{◌≡◌, ℕ, ◌<◌, ◌≤◌, Bool, true, false, not, ◌&&◌, ◌==◌, List, [], ◌∷◌, ◌++◌, length, map, codes, bytes_eq}
 use Rattle.std.specs.List.{list_any, list_all, AllByRecursion}
-use Rattle.oil_grammar.specs.Bytes.{is_letter, is_name_byte}
+use Rattle.oil_grammar.specs.Names.{is_name}
 use Rattle.oil_model.specs.declared.system.Task.{Task}
 use Rattle.oil_model.specs.declared.system.Resource.{Resource}
 use Rattle.oil_model.specs.declared.system.Alarm.{Alarm}
 use Rattle.oil_model.specs.declared.system.System.{System}
-
--- a letter or `_`, then letters, digits and `_`
-abbrev pub is_name : List ℕ → Bool
-is_name [] = false
-is_name (b ∷ rest) = is_letter b && list_all is_name_byte rest
 
 -- no member is the same as a later one
 abbrev pub differ : {A : Type 0} → (A → A → Bool) → List A → Bool

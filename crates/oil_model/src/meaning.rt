@@ -1,6 +1,9 @@
 //! From a tree to its system.
 
+ghost use Rattle.std.specs.Prelude.{IfOk};
+ghost use Rattle.oil_grammar.specs.Grammar.{IsWellFormed};
 ghost use Rattle.oil_model.specs.Answers.{AnswersModel};
+ghost use Rattle.oil_model.specs.System.{IsLawful};
 
 use crate::build::system_of;
 use crate::fault::ModelFault;
@@ -13,7 +16,8 @@ use std::alloc::Global;
 /// order of the file, and the least kind of what it breaks. Where the tree has no APPMODE or no TASK
 /// and each object keeps its rules, the fault is `Missing`, behind the last object.
 pub fn model(alloc: Global, tree: &Tree) -> Result<System, ModelFault>
-    ensures { AnswersModel tree.now result }
+    ensures answer { AnswersModel tree.now result }
+    ensures lawful { IsWellFormed tree.now → IfOk result IsLawful }
 {
     let objects = tree.objects.as_slice();
     match first_fault(objects) {
