@@ -1,5 +1,5 @@
 -- An alarm without a fault names a counter and a task.
-use Rattle.std.proofs.Common.{◌≡◌, ℕ, ◌<◌, Bool, true, false, cond, List, [], ◌∷◌, length, Option, Some, None, refl, subst}
+use Rattle.std.proofs.Common.{◌≡◌, ℕ, ◌<◌, Bool, true, false, cond, List, length, Option, Some, None, refl}
 use Rattle.std.specs.Prelude.{not, codes, bytes_eq, unwrap_or, is_some, ◌||◌}
 use Rattle.oil_grammar.specs.declared.tree.Attribute.{Attribute}
 use Rattle.oil_grammar.specs.declared.tree.Object.{Object}
@@ -9,10 +9,10 @@ use Rattle.oil_model.specs.declared.fault.ModelKind.{ModelKind}
 use Rattle.oil_model.specs.declared.fault.ModelKind.TheVariants.{Twice, Missing, UnknownName, BadValue, Unsupported}
 use Rattle.oil_model.specs.Attributes.{stands_again, first_value, block}
 use Rattle.oil_model.specs.References.{is_kind, of_kind, id_of}
-use Rattle.oil_model.specs.Rules.{once, required, reference_rule, fault_if, action_value, action_word, counter_rule, action_rule, activated_rule, alarm_start_rule, alarm_fault, plain_fault, task_fault, isr_fault, rule_fault}
+use Rattle.oil_model.specs.Rules.{once, required, reference_rule, fault_if, action_value, counter_rule, action_rule, activated_rule, alarm_fault, plain_fault, task_fault, isr_fault, rule_fault}
 use Rattle.oil_model.specs.Meaning.{id_named, counter_of, activated_of}
 use Rattle.oil_model.proofs.IdRanges.{id_of-below}
-use Rattle.oil_model.proofs.Kept.{least_none, no_fault}
+use Rattle.oil_model.proofs.Kept.{least_none}
 use Rattle.oil_model.proofs.Steps.{one_kind}
 
 some_none : {P : Type 0} (kind : ModelKind) → Some kind ≡ None → P

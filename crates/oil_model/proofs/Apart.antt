@@ -1,15 +1,14 @@
 -- In a tree without a fault nothing stands twice that may stand once.
-use Rattle.std.proofs.Common.{◌≡◌, ℕ, Bool, true, false, cond, List, [], ◌∷◌, ◌++◌, map, refl, sym, ap, subst, ◌∙◌, append_assoc, append-nil, Decides}
-use Rattle.std.specs.Prelude.{◌||◌, ◌&&◌, ◌==◌, not, codes, bytes_eq}
+use Rattle.std.proofs.Common.{◌≡◌, ℕ, Bool, true, false, List, [], ◌∷◌, ◌++◌, map, refl, sym, ap, ◌∙◌, append-nil}
+use Rattle.std.specs.Prelude.{◌||◌, ◌&&◌, not, bytes_eq}
 use Rattle.std.specs.List.{list_any}
 use Rattle.std.proofs.lemmas.Bool.{or_parts, or_from, and_parts, and_from, not-true, not_from_false, false_from_ne_true, both_ways}
-use Rattle.std.proofs.lemmas.List.Elements.{filter-append}
 use Rattle.std.proofs.lemmas.List.Folds.{list_any-append}
 use Rattle.std.proofs.lemmas.Slice.Eq.{bytes_eq-Decides}
 use Rattle.oil_grammar.specs.declared.tree.Object.{Object}
 use Rattle.oil_model.specs.System.{differ}
-use Rattle.oil_model.specs.References.{is_kind, is_named, of_kind, priority_of}
-use Rattle.oil_model.specs.Rules.{clashes, has_code, shares_priority}
+use Rattle.oil_model.specs.References.{is_kind, is_named}
+use Rattle.oil_model.specs.Rules.{clashes, has_code}
 use Rattle.oil_model.specs.Meaning.{names_of}
 
 -- ---- lists whose members differ

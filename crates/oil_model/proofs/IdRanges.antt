@@ -1,15 +1,14 @@
 -- Each id that is found is that of an object.
-use Rattle.std.proofs.Common.{◌≡◌, ℕ, suc, ◌+◌, ◌<◌, ◌≤◌, Bool, true, false, cond, List, [], ◌∷◌, ◌++◌, length, Option, Some, None, refl, sym, subst, arith}
-use Rattle.std.specs.Prelude.{nat_lt, codes, bytes_eq, position, fold, filter_map, count_by, nat_eq}
+use Rattle.std.proofs.Common.{◌≡◌, ℕ, ◌+◌, ◌<◌, Bool, true, false, cond, List, [], ◌∷◌, ◌++◌, length, Option, Some, None, refl, subst, arith}
+use Rattle.std.specs.Prelude.{nat_lt, codes, bytes_eq, fold, filter_map, count_by, nat_eq}
 use Rattle.std.specs.List.{AllByRecursion, list_any, position_or_len}
 use Rattle.std.proofs.lemmas.Bool.{ltb-true}
 use Rattle.std.proofs.lemmas.List.Sums.{length-filter}
 use Rattle.oil_grammar.specs.declared.tree.Attribute.{Attribute}
 use Rattle.oil_grammar.specs.declared.tree.Object.{Object}
-use Rattle.oil_grammar.specs.declared.tree.Value.{Value}
 use Rattle.oil_model.specs.System.{scheduler, AreBelow}
 use Rattle.oil_model.specs.Attributes.{is_at, word_of}
-use Rattle.oil_model.specs.References.{is_kind, is_named, of_kind, id_of, id_in, resource_id, names_internal, shared_in, shared_at, shared_ids, mode_at, mode_ids, add_once, each_once}
+use Rattle.oil_model.specs.References.{is_kind, is_named, of_kind, id_of, id_in, resource_id, names_internal, shared_in, shared_at, shared_ids, mode_at, mode_ids, add_once}
 
 -- ---- lists that are made one id at a time
 

@@ -1,6 +1,6 @@
 -- What each object without a fault keeps true of the objects so far is true of a tree without a fault.
-use Rattle.std.proofs.Common.{◌≡◌, ℕ, Bool, true, false, cond, List, [], ◌∷◌, ◌++◌, length, Option, Some, None, refl, subst, append_assoc, append-nil}
-use Rattle.std.specs.Prelude.{◌||◌, ◌&&◌, nat_le, codes}
+use Rattle.std.proofs.Common.{◌≡◌, ℕ, Bool, true, false, cond, List, [], ◌∷◌, ◌++◌, length, Option, Some, None, refl, append_assoc, append-nil}
+use Rattle.std.specs.Prelude.{◌&&◌, nat_le, codes}
 use Rattle.std.specs.List.{list_any}
 use Rattle.std.proofs.lemmas.Bool.{or_parts}
 use Rattle.oil_grammar.specs.declared.tree.Object.{Object}
@@ -8,7 +8,7 @@ use Rattle.oil_model.specs.declared.fault.ModelKind.{ModelKind}
 use Rattle.oil_model.specs.declared.fault.ModelKind.TheVariants.{Twice, SamePriority, Limit}
 use Rattle.oil_model.specs.References.{is_kind}
 use Rattle.oil_model.specs.Rules.{rank_of, least, fault_if, object_fault, name_fault, rule_fault, priority_fault, limit_fault, is_scheduler, clashes, shares_priority, is_past}
-use Rattle.oil_model.specs.Meaning.{fault_from, or_later, end_fault}
+use Rattle.oil_model.specs.Meaning.{fault_from, or_later}
 
 either_some : (test : Bool) (a b : ModelKind) → cond test (Some a) (Some b) ≡ None → ⊥
 either_some true a b is = cc

@@ -1,6 +1,6 @@
 -- The system of a well-formed tree without a fault is lawful.
-use Rattle.std.proofs.Common.{◌≡◌, ℕ, ◌+◌, ◌<◌, ◌≤◌, Bool, true, false, cond, List, [], ◌∷◌, ◌++◌, map, length, Option, None, refl, sym, ap, subst, ◌∙◌, arith, length-append}
-use Rattle.std.specs.Prelude.{◌&&◌, codes, bytes_eq, nat_eq}
+use Rattle.std.proofs.Common.{◌≡◌, ℕ, ◌+◌, ◌≤◌, Bool, true, false, List, [], ◌∷◌, ◌++◌, map, length, None, refl, sym, ap, subst, ◌∙◌, arith, length-append}
+use Rattle.std.specs.Prelude.{codes, bytes_eq, nat_eq}
 use Rattle.std.specs.List.{list_all, AllByRecursion}
 use Rattle.std.proofs.lemmas.Bool.{and_from}
 use Rattle.std.proofs.lemmas.List.{length-map}
@@ -10,15 +10,11 @@ use Rattle.oil_grammar.specs.Names.{is_name, IsNamed}
 use Rattle.oil_grammar.proofs.Named.{has_names}
 use Rattle.oil_grammar.specs.declared.tree.Object.{Object}
 use Rattle.oil_grammar.specs.declared.tree.Tree.{Tree}
-use Rattle.oil_model.specs.declared.system.Task.{Task}
-use Rattle.oil_model.specs.declared.system.Isr.{Isr}
-use Rattle.oil_model.specs.declared.system.Resource.{Resource}
-use Rattle.oil_model.specs.declared.system.Alarm.{Alarm}
 use Rattle.oil_model.specs.declared.system.System.{System}
-use Rattle.oil_model.specs.System.{scheduler, differ, code_names, AreFew, AreBelow, IsTask, IsAlarm, AreNames, AreApart, EndsWithScheduler, IsLawful}
+use Rattle.oil_model.specs.System.{differ, code_names, AreFew, IsTask, IsAlarm, AreNames, AreApart, IsLawful}
 use Rattle.oil_model.specs.References.{is_kind, of_kind, top_priority}
 use Rattle.oil_model.specs.Rules.{rule_fault}
-use Rattle.oil_model.specs.Meaning.{fault_from, model_fault_of, system_of, objects_system, task_of, isr_of, resource_of, alarm_of, start_block, tasks_of, isrs_of, declared_of, resources_of, alarms_of, names_of, scheduler_resource}
+use Rattle.oil_model.specs.Meaning.{fault_from, model_fault_of, system_of, objects_system, task_of, isr_of, resource_of, alarm_of, start_block, declared_of, resources_of, names_of, scheduler_resource}
 use Rattle.oil_model.proofs.Activations.{NamesBoth, alarm_names}
 use Rattle.oil_model.proofs.Apart.{differ-map}
 use Rattle.oil_model.proofs.Counts.{few_more}
@@ -106,9 +102,11 @@ made_names f name same (o ∷ xs) = rw (same o, made_names f name same xs) refl
 
 code_names_same : (objects : List Object) → code_names (objects_system objects) ≡ code_names_of objects
 code_names_same objects =
-    rw (made_names (task_of objects) (λ t. t.name) (λ o. refl) (of_kind (codes "TASK") objects),
-    made_names isr_of (λ i. i.name) (λ o. refl) (of_kind (codes "ISR") objects),
-    made_names (alarm_of objects) (λ a. a.name) (λ o. refl) (of_kind (codes "ALARM") objects)) refl
+    rw (
+      made_names (task_of objects) (λ t. t.name) (λ o. refl) (of_kind (codes "TASK") objects),
+      made_names isr_of (λ i. i.name) (λ o. refl) (of_kind (codes "ISR") objects),
+      made_names (alarm_of objects) (λ a. a.name) (λ o. refl) (of_kind (codes "ALARM") objects),
+    ) refl
 
 -- ---- the parts of a lawful system
 
@@ -144,10 +142,10 @@ is_alarm objects o names = record {
 are_names : (objects : List Object) → AllByRecursion IsNamed objects → AreNames (objects_system objects)
 are_names objects named = record {
   code = rw (code_names_same objects)
-    (both_formed is_name (names_of (codes "TASK") objects) (names_of (codes "ISR") objects ++ names_of (codes "ALARM") objects) (names_formed (codes "TASK") objects named)
-    (both_formed is_name (names_of (codes "ISR") objects) (names_of (codes "ALARM") objects) (names_formed (codes "ISR") objects named) (names_formed (codes "ALARM") objects named)));
+      (both_formed is_name (names_of (codes "TASK") objects) (names_of (codes "ISR") objects ++ names_of (codes "ALARM") objects) (names_formed (codes "TASK") objects named)
+      (both_formed is_name (names_of (codes "ISR") objects) (names_of (codes "ALARM") objects) (names_formed (codes "ISR") objects named) (names_formed (codes "ALARM") objects named)));
   resources = both_formed (λ r. is_name r.name) (declared_of objects objects) (scheduler_resource (top_priority objects) ∷ [])
-    (list_all-from (λ r. is_name r.name) (declared_of objects objects) (all_of_kind IsNamed (λ r. is_name r.name ≡ true) (codes "RESOURCE") (resource_of objects) (λ o is _. is.1) objects named)) refl;
+      (list_all-from (λ r. is_name r.name) (declared_of objects objects) (all_of_kind IsNamed (λ r. is_name r.name ≡ true) (codes "RESOURCE") (resource_of objects) (λ o is _. is.1) objects named)) refl;
   counters = names_formed (codes "COUNTER") objects named;
   modes = names_formed (codes "APPMODE") objects named;
 }

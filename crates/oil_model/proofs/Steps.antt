@@ -12,7 +12,6 @@ use Rattle.oil_model.specs.References.{is_kind, of_kind, priority_of}
 use Rattle.oil_model.specs.Rules.{clashes, has_code, shares_priority}
 use Rattle.oil_model.specs.Meaning.{names_of}
 use Rattle.oil_model.proofs.Apart.{differ-insert, differ-push, same_names, all_other_way, Excludes, unnamed}
-use Rattle.oil_model.proofs.Kept.{IsSound}
 
 -- ---- one object more
 

@@ -31,10 +31,7 @@ block name (a ∷ attributes) = if is_at 1 name a then before_first is_own attri
 
 abbrev pub word_of : Value → Option (List ℕ)
 word_of (value.Name name) = Some name
-word_of (value.Number negative size) = None
-word_of (value.Text text) = None
-word_of (value.Bool b) = None
-word_of value.Auto = None
+word_of _ = None
 
 abbrev pub is_word_of : List ℕ → Option (List ℕ) → Bool
 is_word_of word None = false
@@ -46,9 +43,5 @@ is_value word None = false
 is_value word (Some v) = is_word_of word (word_of v)
 
 abbrev pub is_true : Option Value → Bool
-is_true None = false
-is_true (Some (value.Name name)) = false
-is_true (Some (value.Number negative size)) = false
-is_true (Some (value.Text text)) = false
 is_true (Some (value.Bool b)) = b
-is_true (Some value.Auto) = false
+is_true _ = false

@@ -88,11 +88,12 @@ cycle_of started = number_or_zero greatest_time (first_value 2 (codes "CYCLETIME
 
 abbrev pub alarm_of : List Object → Object → Alarm
 alarm_of objects o = record {
-    name = o.name;
-    counter = counter_of objects o.attributes;
-    task = activated_of objects o.attributes;
-    cycle = cycle_of (start_block o.attributes);
-    modes = mode_ids objects (start_block o.attributes) }
+  name = o.name;
+  counter = counter_of objects o.attributes;
+  task = activated_of objects o.attributes;
+  cycle = cycle_of (start_block o.attributes);
+  modes = mode_ids objects (start_block o.attributes);
+}
 
 -- The lists of a system. Where two lists of objects are given, the names of the second stand for objects of
 -- the first.
@@ -117,12 +118,13 @@ names_of kind objects = map (λ o. o.name) (of_kind kind objects)
 
 abbrev pub objects_system : List Object → System
 objects_system objects = record {
-    tasks = tasks_of objects objects;
-    isrs = isrs_of objects;
-    resources = resources_of objects;
-    alarms = alarms_of objects objects;
-    counters = names_of (codes "COUNTER") objects;
-    modes = names_of (codes "APPMODE") objects }
+  tasks = tasks_of objects objects;
+  isrs = isrs_of objects;
+  resources = resources_of objects;
+  alarms = alarms_of objects objects;
+  counters = names_of (codes "COUNTER") objects;
+  modes = names_of (codes "APPMODE") objects;
+}
 
 abbrev pub system_of : Tree → System
 system_of tree = objects_system tree.objects

@@ -38,11 +38,8 @@ size_in most negative size = if (not negative || (size == 0)) && nat_le size mos
 
 -- a number from 0 to the most; `-0` is 0
 abbrev pub number_in : ℕ → Value → Option ℕ
-number_in most (value.Name name) = None
 number_in most (value.Number negative size) = size_in most negative size
-number_in most (value.Text text) = None
-number_in most (value.Bool b) = None
-number_in most value.Auto = None
+number_in most _ = None
 
 abbrev pub number_or_zero : ℕ → Option Value → ℕ
 number_or_zero most None = 0

@@ -39,11 +39,8 @@ fault_if broken kind = if broken then Some kind else None
 
 -- a value that the rule doesn't have
 abbrev pub other_value : Value → Option ModelKind
-other_value (value.Name name) = Some BadValue
-other_value (value.Number negative size) = Some BadValue
-other_value (value.Text text) = Some BadValue
-other_value (value.Bool b) = Some BadValue
 other_value value.Auto = Some Unsupported
+other_value _ = Some BadValue
 
 -- a number from 0 to the most
 abbrev pub number_rule : ℕ → Value → Option ModelKind
@@ -52,10 +49,7 @@ number_rule most v = if is_some (number_in most v) then None else other_value v
 -- the name of an object, where names have these ids
 abbrev pub reference_rule : (List ℕ → Option ℕ) → Value → Option ModelKind
 reference_rule ids (value.Name name) = fault_if (not (is_some (ids name))) UnknownName
-reference_rule ids (value.Number negative size) = Some BadValue
-reference_rule ids (value.Text text) = Some BadValue
-reference_rule ids (value.Bool b) = Some BadValue
-reference_rule ids value.Auto = Some Unsupported
+reference_rule ids v = other_value v
 
 -- Attributes.
 
@@ -82,11 +76,8 @@ unsupported name attributes = fault_if (stands 1 name attributes) Unsupported
 
 -- AUTOSTART: FALSE, or TRUE with a block of which this kind of fault holds
 abbrev pub start_rule : Option ModelKind → Value → Option ModelKind
-start_rule within (value.Name name) = Some BadValue
-start_rule within (value.Number negative size) = Some BadValue
-start_rule within (value.Text text) = Some BadValue
 start_rule within (value.Bool b) = if b then within else None
-start_rule within value.Auto = Some Unsupported
+start_rule within v = other_value v
 
 abbrev pub each_mode : List Object → List Attribute → Option ModelKind
 each_mode objects within = each (reference_rule (id_of (codes "APPMODE") objects)) 2 (codes "APPMODE") within
@@ -102,21 +93,15 @@ priority_rule own = once (required (number_rule greatest_priority)) 1 (codes "PR
 
 abbrev pub schedule_value : Value → Option ModelKind
 schedule_value (value.Name name) = fault_if (not (bytes_eq name (codes "FULL") || bytes_eq name (codes "NON"))) BadValue
-schedule_value (value.Number negative size) = Some BadValue
-schedule_value (value.Text text) = Some BadValue
-schedule_value (value.Bool b) = Some BadValue
-schedule_value value.Auto = Some Unsupported
+schedule_value v = other_value v
 
 abbrev pub schedule_rule : List Attribute → Option ModelKind
 schedule_rule own = once (optional schedule_value) 1 (codes "SCHEDULE") own
 
 -- more than one activation at a time isn't taken
 abbrev pub activation_value : Value → Option ModelKind
-activation_value (value.Name name) = Some BadValue
 activation_value (value.Number negative size) = fault_if (negative || not (size == 1)) Unsupported
-activation_value (value.Text text) = Some BadValue
-activation_value (value.Bool b) = Some BadValue
-activation_value value.Auto = Some Unsupported
+activation_value v = other_value v
 
 abbrev pub activation_rule : List Attribute → Option ModelKind
 activation_rule own = once (optional activation_value) 1 (codes "ACTIVATION") own
@@ -147,14 +132,11 @@ task_fault objects own = least_of (
 
 -- category 1 isn't taken
 abbrev pub category_value : Value → Option ModelKind
-category_value (value.Name name) = Some BadValue
 category_value (value.Number negative size) =
     if not negative && (size == 2) then None
     else (if not negative && (size == 1) then Some Unsupported
     else Some BadValue)
-category_value (value.Text text) = Some BadValue
-category_value (value.Bool b) = Some BadValue
-category_value value.Auto = Some Unsupported
+category_value v = other_value v
 
 abbrev pub category_rule : List Attribute → Option ModelKind
 category_rule own = once (required category_value) 1 (codes "CATEGORY") own
@@ -178,10 +160,7 @@ property_word name =
 
 abbrev pub property_value : Value → Option ModelKind
 property_value (value.Name name) = property_word name
-property_value (value.Number negative size) = Some BadValue
-property_value (value.Text text) = Some BadValue
-property_value (value.Bool b) = Some BadValue
-property_value value.Auto = Some Unsupported
+property_value v = other_value v
 
 unfoldable pub resource_fault : List Attribute → Option ModelKind
 resource_fault own = once (required property_value) 1 (codes "RESOURCEPROPERTY") own
@@ -204,10 +183,7 @@ action_word within name =
 
 abbrev pub action_value : Option ModelKind → Value → Option ModelKind
 action_value within (value.Name name) = action_word within name
-action_value within (value.Number negative size) = Some BadValue
-action_value within (value.Text text) = Some BadValue
-action_value within (value.Bool b) = Some BadValue
-action_value within value.Auto = Some Unsupported
+action_value within v = other_value v
 
 abbrev pub action_rule : List Object → List Attribute → Option ModelKind
 action_rule objects own = once (required (action_value (activated_rule objects (block (codes "ACTION") own)))) 1 (codes "ACTION") own
@@ -233,11 +209,8 @@ alarm_fault objects own = least_of (counter_rule objects own ∷ (action_rule ob
 -- COUNTER.
 
 abbrev pub count_value : Value → Option ModelKind
-count_value (value.Name name) = Some BadValue
 count_value (value.Number negative size) = None
-count_value (value.Text text) = Some BadValue
-count_value (value.Bool b) = Some BadValue
-count_value value.Auto = Some Unsupported
+count_value v = other_value v
 
 abbrev pub count_rule : List ℕ → List Attribute → Option ModelKind
 count_rule name own = once (optional count_value) 1 name own

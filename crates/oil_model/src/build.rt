@@ -11,7 +11,9 @@ use crate::reference::{
     ceiling_of, internal_of, is_internal, is_kind, is_non_preemptable, number_or_zero, priority_of,
     top_priority,
 };
-use crate::system::{Alarm, Alarms, Isr, Isrs, Name, Names, Resource, Resources, System, Task, Tasks};
+use crate::system::{
+    Alarm, Alarms, Isr, Isrs, Name, Names, Resource, Resources, System, Task, Tasks,
+};
 use listed::Memory;
 use oil_grammar::{Attribute, Object, Value};
 use std::alloc::Global;

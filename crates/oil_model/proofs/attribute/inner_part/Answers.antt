@@ -1,4 +1,4 @@
-use Rattle.std.proofs.Common.{◌≡◌, take, ap, ◌∙◌, length}
+use Rattle.std.proofs.Common.{take, ap, ◌∙◌, length}
 use Rattle.std.specs.Prelude.{unwrap_or}
 use Rattle.oil_model.specs.Attributes.{is_own}
 use Rattle.oil_model.proofs.Lists.{position_or_length}

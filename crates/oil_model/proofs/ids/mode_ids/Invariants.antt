@@ -1,4 +1,4 @@
-use Rattle.std.proofs.Common.{◌≡◌, ◌++◌, length}
+use Rattle.std.proofs.Common.{◌≡◌, length}
 use Rattle.std.specs.Prelude.{fold, filter_map}
 use Rattle.oil_model.specs.References.{add_once, mode_at, mode_ids}
 use Rattle.oil_model.proofs.ids.mode_ids.Given as goal

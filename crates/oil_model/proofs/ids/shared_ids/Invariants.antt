@@ -1,4 +1,4 @@
-use Rattle.std.proofs.Common.{◌≡◌, ◌++◌, length}
+use Rattle.std.proofs.Common.{◌≡◌, length}
 use Rattle.std.specs.Prelude.{fold, filter_map}
 use Rattle.oil_model.specs.References.{add_once, shared_at, shared_ids}
 use Rattle.oil_model.proofs.ids.shared_ids.Given as goal

@@ -1,6 +1,6 @@
 use Rattle.std.proofs.Common.{◌≡◌, length, max}
-use Rattle.std.specs.Prelude.{codes, fold, filter}
-use Rattle.oil_model.specs.References.{of_kind, priority_of, top_priority, takes_resource, ceiling_of, internal_of}
+use Rattle.std.specs.Prelude.{fold, filter}
+use Rattle.oil_model.specs.References.{priority_of, takes_resource, ceiling_of}
 use Rattle.oil_model.proofs.reference.ceiling_of.Given as goal
 
 abbrev pub invariant-loop-first : goal.invariant-loop-first
