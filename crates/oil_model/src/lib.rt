@@ -28,3 +28,6 @@ pub use meaning::model;
 pub use system::{
     Alarm, Alarms, Ids, Isr, Isrs, Name, Names, Resource, Resources, System, Task, Tasks,
 };
+
+#[cfg(test)]
+mod tests;
