@@ -16,3 +16,4 @@ pub mod BlockLines
 pub mod Again
 pub mod OneFault
 pub mod Worked
+pub mod Named

@@ -8,3 +8,4 @@ pub mod Reading
 pub mod States
 pub mod Advancing
 pub mod Firsts
+pub mod Names

@@ -7,6 +7,7 @@
 mod fault;
 mod first;
 mod gap;
+mod names;
 mod reading;
 mod state;
 mod token;
@@ -15,6 +16,7 @@ mod writing;
 
 pub use fault::{OilFault, OilKind};
 pub use listed::Memory;
+pub use names::well_formed_names;
 pub use reading::{one_fault, one_tree, read_oil, tree_or_fault};
 pub use tree::{Attribute, Attributes, Bytes, Name, Object, Objects, Tree, Value};
 pub use writing::write_oil;
