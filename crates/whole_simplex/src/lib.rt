@@ -7,6 +7,7 @@ mod exact;
 mod line;
 mod optimal;
 mod pivot;
+mod places;
 mod ratio_test;
 mod rays;
 mod solving;
