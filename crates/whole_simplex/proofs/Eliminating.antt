@@ -39,12 +39,12 @@ eliminates_done place pivot row sum new h e f = by_test (is_zero (entry row plac
         let parts = combination_ok (entry pivot place) row (entry row place) pivot sum e in
         (f ∙ ap primitive_of parts.0, parts.1)
 
-pub eliminates_wide : (place : ℕ) (pivot row new : List ℤ) (a : ℤ) (fault : RowFault) → entry row place ≢ pos 0 → a ≡ entry row place → BecomesCombination (combination row (entry pivot place) pivot a) new (Err fault) → IsFaultOf (elimination_pairs place pivot row) fault
-eliminates_wide place pivot row new a Memory h at_a e = tt
-eliminates_wide place pivot row new a (Wide b d) h at_a e = by_test (is_zero (entry row place)) (not_zero (entry row place) h)
+pub eliminates_wide : (place : ℕ) (pivot row new : List ℤ) (p a : ℤ) (fault : RowFault) → entry row place ≢ pos 0 → p ≡ entry pivot place → a ≡ entry row place → BecomesCombination (combination row p pivot a) new (Err fault) → IsFaultOf (elimination_pairs place pivot row) fault
+eliminates_wide place pivot row new p a Memory h at_p at_a e = tt
+eliminates_wide place pivot row new p a (Wide b d) h at_p at_a e = by_test (is_zero (entry row place)) (not_zero (entry row place) h)
   where
     same : combination row (entry pivot place) pivot (entry row place) ≡ Err (b, d)
-    same = sym (ap (λ y. combination row (entry pivot place) pivot y) at_a) ∙ e
+    same = sym (ap (λ x. combination row x pivot a) at_p ∙ ap (λ y. combination row (entry pivot place) pivot y) at_a) ∙ e
 
     by_test : (t : Bool) → t ≡ false → IsFaultOf (cond t [] (combination_pairs (entry pivot place) row (entry row place) pivot)) (Wide b d)
     by_test true g = absurd (cc)

@@ -1,5 +1,5 @@
 -- The places of a row that aren't 0, and a row that a combination is put into.
-use Rattle.std.specs.Prelude.{◌≡◌, ℕ, suc, cond, List, [], ◌∷◌, ℤ, pos, negsuc, Result, Ok, Err, refl}
+use Rattle.std.specs.Prelude.{◌≡◌, ℕ, suc, cond, List, [], ◌∷◌, set, ℤ, pos, negsuc, Result, Ok, Err, refl}
 use Rattle.whole_rows.specs.Row.{is_zero}
 use Rattle.whole_rows.specs.declared.row.RowFault.{RowFault}
 use Rattle.whole_rows.specs.declared.row.RowFault.TheVariants.{Wide, Memory}
@@ -12,6 +12,12 @@ places_from place (x ∷ row) = cond (is_zero x) (places_from (suc place) row) (
 
 abbrev pub places_of : List ℤ → List ℕ
 places_of row = places_from 0 row
+
+-- the answer of a call that puts the combination of two entries in a place
+abbrev pub CombinesEntry : Result ℤ (ℤ × ℤ) → ℕ → List ℤ → List ℤ → Result Done RowFault → Type 0
+CombinesEntry expected place old new (Ok done) = (value : ℤ) × (expected ≡ Ok value) × (new ≡ set old place value)
+CombinesEntry expected place old new (Err (Wide a b)) = expected ≡ Err (a, b)
+CombinesEntry expected place old new (Err Memory) = ⊥
 
 -- the answer of a call that puts a combination into a row
 abbrev pub BecomesCombination : Result (List ℤ) (ℤ × ℤ) → List ℤ → Result Done RowFault → Type 0

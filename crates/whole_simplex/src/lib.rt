@@ -3,6 +3,8 @@
 //! number that would leave its range is reported, and none is rounded.
 #![tactic(auto)]
 
+mod combining;
+mod dividing;
 mod exact;
 mod line;
 mod optimal;

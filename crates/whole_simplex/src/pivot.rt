@@ -1,102 +1,32 @@
-ghost use Rattle.std.specs.Prelude.{◌≡◌, ◌<◌, length, All, IsTrue, Some, pos, slice_get};
-ghost use Rattle.whole_rows.specs.Row.{combination, primitive_of};
+ghost use Rattle.std.specs.Prelude.{◌≡◌, ◌<◌, length, All, Some, slice_get};
+ghost use Rattle.whole_rows.specs.Row.{combination};
 ghost use Rattle.whole_simplex.specs.Faults.{Eliminates, EliminatesAll, Pivots};
 ghost use Rattle.whole_simplex.specs.Places.{BecomesCombination, places_of};
-ghost use Rattle.whole_simplex.specs.Tables.{AreDistinct, entry};
+ghost use Rattle.whole_simplex.specs.Tables.{AreDistinct};
 
+use crate::combining::{combine_all, subtract};
+use crate::dividing::make_primitive;
 use crate::line::{Line, entry};
 use crate::places::places_of;
 use std::alloc::Global;
-use whole_rows::{Row, RowFault, combine, combined_entry, primitive};
+use whole_rows::{Row, RowFault};
 
-/// Whether an entry is 1 or -1; the row is primitive then.
-fn has_unit(row: &Row) -> bool
-    ensures { IsTrue result → primitive_of row.now ≡ row.now }
-{
-    for place in 0..row.len() {
-        let size = entry(row, place).unsigned_abs();
-        if size == 1 {
-            return true;
-        }
-    }
-    false
-}
-
-/// Whether the row has 1 or -1 at the place; the row is primitive then.
-fn is_unit_at(row: &Row, place: usize) -> bool
-    ensures { IsTrue result → primitive_of row.now ≡ row.now }
-{
-    if place >= row.len() {
-        return false;
-    }
-    let size = entry(row, place).unsigned_abs();
-    size == 1
-}
-
-/// Divides the row by its greatest common divisor. Most rows have an entry of 1 and are left; it is
-/// looked for at that place first.
-fn make_primitive(row: &mut Row, likely: usize)
-    ensures { row.new ≡ primitive_of row.old }
-{
-    if !is_unit_at(row, likely) && !has_unit(row) {
-        primitive(row);
-    }
-}
-
-/// Subtracts a multiple of the pivot row, whose places that aren't 0 are given.
-fn subtract(row: &mut Row, a: i128, pivot: &Row, places: &[usize]) -> Result<(), RowFault>
+/// Combines the row with the pivot row, which has the entry `p` at the entering place and the given
+/// places that aren't 0.
+fn reduce(row: &mut Row, p: i128, pivot: &Row, a: i128, places: &[usize]) -> Result<(), RowFault>
     requires same { length row.old ≡ length pivot.now }
     requires places { places.now ≡ places_of pivot.now }
-    ensures { BecomesCombination (combination row.old (pos 1) pivot.now a) row.new result }
+    ensures { BecomesCombination (combination row.old p pivot.now a) row.new result }
 {
-    row.entries_are_in_range();
-    for i in 0..places.len() {
-        let place = places[i];
-        match combined_entry(1, entry(row, place), a, entry(pivot, place)) {
-            Ok(difference) => row.set(place, difference),
-            Err(fault) => return Err(fault),
-        }
-    }
-    Ok(())
-}
-
-/// Combines the row with the pivot row, so that it becomes 0 at the place, where it is `a`.
-fn reduce(
-    alloc: Global,
-    row: &mut Row,
-    a: i128,
-    pivot: &Row,
-    places: &[usize],
-    place: usize,
-) -> Result<(), RowFault>
-    requires same { length row.old ≡ length pivot.now }
-    requires places { places.now ≡ places_of pivot.now }
-    requires place { place < length pivot.now }
-    ensures { BecomesCombination (combination row.old (entry pivot.now place) pivot.now a) row.new result }
-{
-    let p = entry(pivot, place);
     if p == 1 {
-        return subtract(row, a, pivot, places);
+        return subtract(row, pivot, a, places);
     }
-    match combine(alloc, row, p, pivot, a) {
-        Ok(combined) => {
-            *row = combined;
-            Ok(())
-        }
-        Err(fault) => Err(fault),
-    }
+    combine_all(row, p, pivot, a)
 }
 
 /// Makes the row 0 at the place by means of the pivot row, and primitive. A row that is 0 there
-/// already isn't touched. The row often has a 1 at the place `likely`.
-fn eliminate(
-    alloc: Global,
-    row: &mut Row,
-    likely: usize,
-    pivot: &Row,
-    places: &[usize],
-    place: usize,
-) -> Result<(), RowFault>
+/// already isn't touched.
+fn eliminate(row: &mut Row, pivot: &Row, places: &[usize], place: usize) -> Result<(), RowFault>
     requires same { length row.old ≡ length pivot.now }
     requires places { places.now ≡ places_of pivot.now }
     requires place { place < length pivot.now }
@@ -106,18 +36,18 @@ fn eliminate(
     if a == 0 {
         return Ok(());
     }
-    match reduce(alloc, row, a, pivot, places, place) {
+    let p = entry(pivot, place);
+    match reduce(row, p, pivot, a, places) {
         Ok(()) => {
-            make_primitive(row, likely);
+            make_primitive(row, p == 1);
             Ok(())
         }
         Err(fault) => Err(fault),
     }
 }
 
-/// Eliminates the entering place from each of the lines. A line often has a 1 at its basic column.
+/// Eliminates the entering place from each of the lines.
 fn eliminate_all(
-    alloc: Global,
     lines: &mut [Line],
     pivot: &Row,
     places: &[usize],
@@ -130,7 +60,7 @@ fn eliminate_all(
 {
     for i in 0..lines.len() {
         let line = &mut lines[i];
-        match eliminate(alloc, &mut line.entries, line.basic, pivot, places, place) {
+        match eliminate(&mut line.entries, pivot, places, place) {
             Ok(()) => {}
             Err(fault) => return Err(fault),
         }
@@ -164,15 +94,15 @@ pub fn pivot(
         Ok(places) => places,
         Err(_) => return Err(RowFault::Memory),
     };
-    match eliminate_all(alloc, before, &pivot.entries, places.as_slice(), place) {
+    match eliminate_all(before, &pivot.entries, places.as_slice(), place) {
         Ok(()) => {}
         Err(fault) => return Err(fault),
     }
-    match eliminate_all(alloc, after, &pivot.entries, places.as_slice(), place) {
+    match eliminate_all(after, &pivot.entries, places.as_slice(), place) {
         Ok(()) => {}
         Err(fault) => return Err(fault),
     }
-    match eliminate(alloc, objective, 0, &pivot.entries, places.as_slice(), place) {
+    match eliminate(objective, &pivot.entries, places.as_slice(), place) {
         Ok(()) => {}
         Err(fault) => return Err(fault),
     }

@@ -1,7 +1,7 @@
 use Rattle.std.proofs.Common.{◌≡◌, drop, length, pos}
 use Rattle.whole_rows.specs.Row.{combination}
 use Rattle.whole_simplex.proofs.Sparse.{subtraction}
-use Rattle.whole_simplex.proofs.pivot.subtract.Given as goal
+use Rattle.whole_simplex.proofs.combining.subtract.Given as goal
 
 abbrev pub invariant-loop-i : goal.invariant-loop-i
 invariant-loop-i l =
