@@ -1,5 +1,5 @@
 -- The places of a row that aren't 0, and a row that a combination is put into.
-use Rattle.std.specs.Prelude.{◌≡◌, ℕ, suc, cond, List, [], ◌∷◌, set, ℤ, pos, negsuc, Result, Ok, Err, refl}
+use Rattle.std.specs.Prelude.{◌≡◌, ℕ, suc, Bool, true, false, cond, List, [], ◌∷◌, set, ℤ, pos, negsuc, Result, Ok, Err, refl}
 use Rattle.whole_rows.specs.Row.{is_zero}
 use Rattle.whole_rows.specs.declared.row.RowFault.{RowFault}
 use Rattle.whole_rows.specs.declared.row.RowFault.TheVariants.{Wide, Memory}
@@ -18,6 +18,11 @@ abbrev pub CombinesEntry : Result ℤ (ℤ × ℤ) → ℕ → List ℤ → List
 CombinesEntry expected place old new (Ok done) = (value : ℤ) × (expected ≡ Ok value) × (new ≡ set old place value)
 CombinesEntry expected place old new (Err (Wide a b)) = expected ≡ Err (a, b)
 CombinesEntry expected place old new (Err Memory) = ⊥
+
+-- the answer of a call that puts the combination of two entries in a place, or else changes nothing
+abbrev pub MayCombine : Result ℤ (ℤ × ℤ) → ℕ → List ℤ → List ℤ → Bool → Type 0
+MayCombine expected place old new true = (value : ℤ) × (expected ≡ Ok value) × (new ≡ set old place value)
+MayCombine expected place old new false = new ≡ old
 
 -- the answer of a call that puts a combination into a row
 abbrev pub BecomesCombination : Result (List ℤ) (ℤ × ℤ) → List ℤ → Result Done RowFault → Type 0

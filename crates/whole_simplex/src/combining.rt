@@ -1,6 +1,6 @@
 ghost use Rattle.std.specs.Prelude.{◌≡◌, ◌<◌, ◌^◌, ◌*ℤ◌, ◌↔◌, IsTrue, Ok, length, pos, unsigned_abs};
 ghost use Rattle.whole_rows.specs.Row.{IsInRange, combination, combined_entry};
-ghost use Rattle.whole_simplex.specs.Places.{BecomesCombination, CombinesEntry, places_of};
+ghost use Rattle.whole_simplex.specs.Places.{BecomesCombination, CombinesEntry, MayCombine, places_of};
 ghost use Rattle.whole_simplex.specs.Tables.{entry};
 
 use crate::line::entry;
@@ -35,19 +35,35 @@ fn narrow_entry(p: i128, x: i128, a: i128, y: i128) -> i128
     narrow_product(p, x) - narrow_product(a, y)
 }
 
-/// Puts `p` times the row's entry at the place less `a` times the pivot row's there.
-fn combine_at(row: &mut Row, p: i128, pivot: &Row, a: i128, place: usize) -> Result<(), RowFault>
+/// Puts `p` times the row's entry at the place less `a` times the pivot row's there, where all four
+/// numbers are of 64 bits, as most are. Answers whether they are.
+fn combine_narrow(row: &mut Row, p: i128, pivot: &Row, a: i128, place: usize) -> bool
     requires row { place < length row.old }
     requires pivot { place < length pivot.now }
-    ensures { CombinesEntry (combined_entry p (entry row.old place) a (entry pivot.now place)) place row.old row.new result }
+    ensures { MayCombine (combined_entry p (entry row.old place) a (entry pivot.now place)) place row.old row.new result }
 {
     let x = entry(row, place);
     let y = entry(pivot, place);
     if is_narrow(p) && is_narrow(x) && is_narrow(a) && is_narrow(y) {
         row.set(place, narrow_entry(p, x, a, y));
-        return Ok(());
+        return true;
     }
-    match combined_entry(p, x, a, y) {
+    false
+}
+
+/// Puts `p` times the row's entry at the place less `a` times the pivot row's there.
+fn combine_wide(
+    row: &mut Row,
+    p: i128,
+    pivot: &Row,
+    a: i128,
+    place: usize,
+) -> Result<(), RowFault>
+    requires row { place < length row.old }
+    requires pivot { place < length pivot.now }
+    ensures { CombinesEntry (combined_entry p (entry row.old place) a (entry pivot.now place)) place row.old row.new result }
+{
+    match combined_entry(p, entry(row, place), a, entry(pivot, place)) {
         Ok(combined) => {
             row.set(place, combined);
             Ok(())
@@ -64,7 +80,11 @@ pub fn subtract(row: &mut Row, pivot: &Row, a: i128, places: &[usize]) -> Result
 {
     row.entries_are_in_range();
     for i in 0..places.len() {
-        match combine_at(row, 1, pivot, a, places[i]) {
+        let place = places[i];
+        if combine_narrow(row, 1, pivot, a, place) {
+            continue;
+        }
+        match combine_wide(row, 1, pivot, a, place) {
             Ok(()) => {}
             Err(fault) => return Err(fault),
         }
@@ -78,7 +98,10 @@ pub fn combine_all(row: &mut Row, p: i128, pivot: &Row, a: i128) -> Result<(), R
     ensures { BecomesCombination (combination row.old p pivot.now a) row.new result }
 {
     for place in 0..pivot.len() {
-        match combine_at(row, p, pivot, a, place) {
+        if combine_narrow(row, p, pivot, a, place) {
+            continue;
+        }
+        match combine_wide(row, p, pivot, a, place) {
             Ok(()) => {}
             Err(fault) => return Err(fault),
         }
