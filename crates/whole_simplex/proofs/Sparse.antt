@@ -1,14 +1,13 @@
--- Combinations that are put into a row place by place: at every place, or with 1 times the row at those places alone
--- where the pivot row isn't 0.
-use Rattle.std.proofs.Common.{◌≡◌, ℕ, zero, suc, ◌+◌, ◌<◌, Bool, true, false, cond, List, [], ◌∷◌, ◌++◌, length, get_or, take, drop, set, All, ℤ, pos, ◌-ℤ◌, ◌*ℤ◌, Result, Ok, Err, refl, sym, ap, ◌∙◌, subst, append_assoc, arith}
+-- A combination with 1 times a row, formed at the places alone where the pivot row isn't 0.
+use Rattle.std.proofs.Common.{◌≡◌, ℕ, suc, ◌+◌, ◌<◌, Bool, true, false, cond, List, [], ◌∷◌, ◌++◌, length, get_or, drop, set, All, ℤ, pos, ◌-ℤ◌, ◌*ℤ◌, Result, Ok, Err, refl, sym, ap, ◌∙◌, subst, append_assoc, arith}
 use Rattle.std.proofs.Math.IntN.{*ℤ-zero}
 use Rattle.std.proofs.lemmas.Int.{ints}
-use Rattle.std.proofs.lemmas.List.{get_or_at, set_at, length-append, drop_more, drop_all, take_all, take_more_set, drop-set-lt}
+use Rattle.std.proofs.lemmas.List.{get_or_at, set_at, length-append, drop_more, drop_all}
 use Rattle.std.proofs.lemmas.List.Elements.{All-nil, All-cons, All-head, All-tail, All-weaker, All-get_or}
 use Rattle.whole_rows.specs.Row.{IsInRange, AreInRange, is_zero, combined_entry, cons_entry, combination}
 use Rattle.whole_rows.specs.declared.row.RowFault.{RowFault}
 use Rattle.whole_rows.specs.declared.row.RowFault.TheVariants.{Wide, Memory}
-use Rattle.whole_rows.proofs.Combinations.{append_entries, append_entries-cons, append_entries-none, combined_entry-ok, combination_more, combination_stops, combination_ends}
+use Rattle.whole_rows.proofs.Combinations.{append_entries, append_entries-cons, append_entries-none, combined_entry-ok}
 use Rattle.whole_simplex.specs.Places.{BecomesCombination, CombinesEntry, places_from, places_of}
 use Rattle.whole_simplex.specs.Tables.{entry}
 use Rattle.whole_simplex.proofs.Eliminated.{zero_from_test}
@@ -114,19 +113,3 @@ pub subtraction_ends : (places : List ℕ) (i : ℕ) (row : List ℤ) (a : ℤ) 
 subtraction_ends places i row a pivot whole e before =
     let none : drop i places ≡ [] = drop_all i places (omega arith) in
     sym before ∙ ap (λ (ks : List ℕ). subtraction ks row a pivot) none
-
--- ---- the loop over every place
-
-pub combined_more : (row pivot : List ℤ) (p a : ℤ) (i : ℕ) (e : ℤ) (new : List ℤ) (whole : Result (List ℤ) (ℤ × ℤ)) → i < length row → length row ≡ length pivot → combined_entry p (entry row i) a (entry pivot i) ≡ Ok e → new ≡ set row i e → whole ≡ append_entries (take i row) (combination (drop i row) p (drop i pivot) a) → whole ≡ append_entries (take (i + 1) new) (combination (drop (i + 1) new) p (drop (i + 1) pivot) a)
-combined_more row pivot p a i e new whole h long is at_new before =
-    let front : take (i + 1) new ≡ take i row ++ e ∷ [] = ap (take (i + 1)) at_new ∙ take_more_set row i e h in
-    let rest : drop (i + 1) new ≡ drop (i + 1) row = ap (drop (i + 1)) at_new ∙ drop-set-lt (i + 1) row i e (omega arith) in
-    rw (front, rest) (combination_more row p pivot a i (take i row) (entry row i) (entry pivot i) e whole h long refl refl is before)
-
-pub combined_stops : (row pivot : List ℤ) (p a : ℤ) (i : ℕ) (wide : ℤ × ℤ) (whole : Result (List ℤ) (ℤ × ℤ)) → i < length row → length row ≡ length pivot → combined_entry p (entry row i) a (entry pivot i) ≡ Err wide → whole ≡ append_entries (take i row) (combination (drop i row) p (drop i pivot) a) → whole ≡ Err wide
-combined_stops row pivot p a i wide whole h long is before =
-    combination_stops row p pivot a i (take i row) (entry row i) (entry pivot i) wide whole h long refl refl is before
-
-pub combined_ends : (row pivot : List ℤ) (p a : ℤ) (i : ℕ) (whole : Result (List ℤ) (ℤ × ℤ)) → i ≡ length row → whole ≡ append_entries (take i row) (combination (drop i row) p (drop i pivot) a) → whole ≡ Ok row
-combined_ends row pivot p a i whole e before =
-    combination_ends row p pivot a i (take i row) whole e before ∙ ap Ok (take_all i row (omega arith))

@@ -52,13 +52,7 @@ fn combine_narrow(row: &mut Row, p: i128, pivot: &Row, a: i128, place: usize) ->
 }
 
 /// Puts `p` times the row's entry at the place less `a` times the pivot row's there.
-fn combine_wide(
-    row: &mut Row,
-    p: i128,
-    pivot: &Row,
-    a: i128,
-    place: usize,
-) -> Result<(), RowFault>
+fn combine_wide(row: &mut Row, p: i128, pivot: &Row, a: i128, place: usize) -> Result<(), RowFault>
     requires row { place < length row.old }
     requires pivot { place < length pivot.now }
     ensures { CombinesEntry (combined_entry p (entry row.old place) a (entry pivot.now place)) place row.old row.new result }
@@ -92,12 +86,24 @@ pub fn subtract(row: &mut Row, pivot: &Row, a: i128, places: &[usize]) -> Result
     Ok(())
 }
 
+/// Whether both rows are 0 at the place.
+fn are_zero(row: &Row, pivot: &Row, place: usize) -> bool
+    requires row { place < length row.now }
+    requires pivot { place < length pivot.now }
+    ensures { IsTrue result → (entry row.now place ≡ pos 0) × (entry pivot.now place ≡ pos 0) }
+{
+    entry(row, place) == 0 && entry(pivot, place) == 0
+}
+
 /// Multiplies the row by `p` and subtracts `a` times the pivot row.
 pub fn combine_all(row: &mut Row, p: i128, pivot: &Row, a: i128) -> Result<(), RowFault>
     requires { length row.old ≡ length pivot.now }
     ensures { BecomesCombination (combination row.old p pivot.now a) row.new result }
 {
     for place in 0..pivot.len() {
+        if are_zero(row, pivot, place) {
+            continue;
+        }
         if combine_narrow(row, p, pivot, a, place) {
             continue;
         }

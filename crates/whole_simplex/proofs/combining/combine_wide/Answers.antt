@@ -1,12 +1,11 @@
 -- The value that is put is that of the combined entry.
-use Rattle.std.proofs.Common.{◌≡◌, ◌∙◌, ap, ◌-ℤ◌}
+use Rattle.std.proofs.Common.{◌≡◌}
 use Rattle.std.specs.Prelude.{Ok, set}
 use Rattle.std.proofs.lemmas.Int.{to_z-of_z}
 use Rattle.std.specs.Int.{w128}
 use mir.Val.{SFits}
 use Rattle.whole_rows.specs.Row.{combined_entry}
 use Rattle.whole_rows.proofs.Combinations.{fits_from_range}
-use Rattle.whole_simplex.specs.Tables.{entry}
 use Rattle.whole_simplex.proofs.combining.combine_wide.Goals as goal
 
 pub returns-in-Ok : goal.returns-in-Ok

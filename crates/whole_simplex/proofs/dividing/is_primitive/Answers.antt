@@ -2,7 +2,7 @@
 use Rattle.std.proofs.Common.{◌≡◌, ◌<◌, ◌-◌, ℕ, ℤ, length, unsigned_abs, pos, ap, sym, subst, ◌∙◌, arith, rules}
 use Rattle.std.proofs.lemmas.Int.{to_z-of_z}
 use Rattle.std.specs.Int.{w128, ◌∣◌}
-use mir.Val.{SFits, to_z, of_z}
+use mir.Val.{SFits, to_z}
 use Rattle.whole_rows.specs.Row.{divisor_of}
 use Rattle.whole_rows.proofs.Combinations.{fits_from_range}
 use Rattle.whole_simplex.proofs.Primitive.{shared_more, one_is_primitive}

@@ -3,7 +3,6 @@ use Rattle.std.proofs.Common.{◌≡◌, ◌<◌, ◌^◌, pos, unsigned_abs}
 use Rattle.std.proofs.lemmas.Int.{to_z-of_z, to_z_pos}
 use Rattle.std.specs.Int.{IsGcd, w128}
 use mir.Val.{SFits, to_z}
-use Rattle.whole_rows.specs.Row.{IsInRange}
 use Rattle.whole_rows.proofs.Combinations.{fits_from_range}
 use Rattle.whole_simplex.proofs.Primitive.{divisor_in_range}
 use Rattle.whole_simplex.proofs.dividing.shared_divisor.Goals as goal
