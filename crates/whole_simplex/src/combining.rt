@@ -13,7 +13,7 @@ fn is_narrow(number: i128) -> bool
     -0x8000_0000_0000_0000 < number && number < 0x8000_0000_0000_0000
 }
 
-/// The product of two numbers of 64 bits, by one multiplication.
+/// The product of two numbers of 64 bits.
 fn narrow_product(a: i128, b: i128) -> i128
     requires a { unsigned_abs a < 2 ^ 63 }
     requires b { unsigned_abs b < 2 ^ 63 }
@@ -66,7 +66,8 @@ fn combine_wide(row: &mut Row, p: i128, pivot: &Row, a: i128, place: usize) -> R
     }
 }
 
-/// Subtracts `a` times the pivot row, of which the places that aren't 0 are given.
+/// Subtracts `a` times the pivot row, of which the places that aren't 0 are given. After a fault the
+/// row is combined in part.
 pub fn subtract(row: &mut Row, pivot: &Row, a: i128, places: &[usize]) -> Result<(), RowFault>
     requires same { length row.old ≡ length pivot.now }
     requires places { places.now ≡ places_of pivot.now }
@@ -95,7 +96,8 @@ fn are_zero(row: &Row, pivot: &Row, place: usize) -> bool
     entry(row, place) == 0 && entry(pivot, place) == 0
 }
 
-/// Multiplies the row by `p` and subtracts `a` times the pivot row.
+/// Multiplies the row by `p` and subtracts `a` times the pivot row. After a fault the row is combined
+/// in part.
 pub fn combine_all(row: &mut Row, p: i128, pivot: &Row, a: i128) -> Result<(), RowFault>
     requires { length row.old ≡ length pivot.now }
     ensures { BecomesCombination (combination row.old p pivot.now a) row.new result }
