@@ -1,10 +1,12 @@
 //! Runs over files and a sink in memory.
+use crate::outcome::bound_answer;
 use crate::run::run;
 use crate::status::Status;
 use listed::Memory;
 use std::alloc::Global;
 use std::test::Fail;
 use wcet_io::{Bytes, MemFiles, MemSink, Text, Words};
+use whole_rows::{Row, Rows, Terms};
 
 /// addi x5, x0, 7, and then TerminateTask.
 const IMAGE: [u8; 16] = [
@@ -39,6 +41,20 @@ const LISTED_TWICE: &str = "[[0,[[0,0]],[],0,0],[0,[[]],[],0,0],[0,[[0,0]],[],0,
 const NO_INITIAL: &str = "[[0,[[]],[],0,0]]";
 
 const UNDER_A_LOCK: &str = "[[0,[[0,0]],[],0,0],[0,[[]],[],0,0],[0,[[0,0]],[],1,0]]";
+
+const ONE_TASK: &str =
+    "OIL_VERSION=\"2.5\";CPU A{APPMODE M;TASK T{PRIORITY=0x0A;AUTOSTART=TRUE{APPMODE=M;};};};";
+
+const ONE_TASK_LAYOUT: &str =
+    "OIL_VERSION = \"2.5\";\nCPU A {\n  APPMODE M {\n  };\n  TASK T {\n    PRIORITY = 10;\n    AUTOSTART = TRUE {\n      APPMODE = M;\n    };\n  };\n};\n";
+
+/// Two tasks have the priority 1.
+const ONE_PRIORITY_FOR_TWO: &str =
+    "OIL_VERSION = \"2.5\"; CPU Demo { APPMODE Main; COUNTER C { MINCYCLE = 1; }; TASK T { PRIORITY = 1; AUTOSTART = TRUE { APPMODE = Main; }; }; TASK H { PRIORITY = 1; }; };";
+
+/// A task that can't be preempted names an internal resource.
+const INTERNAL_AND_NOT_PREEMPTABLE: &str =
+    "OIL_VERSION = \"2.5\"; CPU Demo { APPMODE Main; COUNTER C { MINCYCLE = 1; }; RESOURCE G { RESOURCEPROPERTY = INTERNAL; }; TASK T { RESOURCE = G; PRIORITY = 1; SCHEDULE = NON; }; TASK H { RESOURCE = G; PRIORITY = 2; }; };";
 
 /// Which calls fail.
 #[derive(Clone, Copy)]
@@ -81,14 +97,20 @@ fn outcome(
             Bytes::from_slice(alloc, beside.as_bytes())?,
         )?;
     }
+    fail(&mut files, &mut out, failing)?;
+    let status = run(alloc, &given, &mut files, &mut out);
+    Ok((status, out))
+}
+
+/// Lets the first read, the first write or both fail.
+fn fail(files: &mut MemFiles, out: &mut MemSink, failing: Failing) -> Result<(), Memory> {
     if matches!(failing, Failing::Read | Failing::Both) {
         files.fail_at(0)?;
     }
     if matches!(failing, Failing::Write | Failing::Both) {
         out.fail_at(0)?;
     }
-    let status = run(alloc, &given, &mut files, &mut out);
-    Ok((status, out))
+    Ok(())
 }
 
 #[test]
@@ -281,5 +303,98 @@ fn the_greatest_value_of_the_rows_is_found(rt: HostRuntime) -> Result<(), Fail> 
         assert_eq!(rt; ended, status);
         assert_eq!(rt; out.written(), text.as_bytes());
     }
+    Ok(())
+}
+
+/// The answer of `show oil a`, where `a` has this text.
+fn shown(alloc: Global, text: &[u8], failing: Failing) -> Result<(Status, MemSink), Memory> {
+    let mut given = Words::new(alloc);
+    for word in ["show", "oil", "a"] {
+        given.push(Text::from_str(alloc, word)?)?;
+    }
+    let mut files = MemFiles::new(alloc);
+    let mut out = MemSink::new(alloc);
+    files.put(Text::from_str(alloc, "a")?, Bytes::from_slice(alloc, text)?)?;
+    fail(&mut files, &mut out, failing)?;
+    let status = run(alloc, &given, &mut files, &mut out);
+    Ok((status, out))
+}
+
+#[test]
+fn oil_files_are_judged_and_written_in_one_layout(rt: HostRuntime) -> Result<(), Fail> {
+    for (file, failing, text, status) in [
+        (ONE_TASK, Failing::Nothing, ONE_TASK_LAYOUT, Status::Ok),
+        (
+            ONE_TASK_LAYOUT,
+            Failing::Nothing,
+            ONE_TASK_LAYOUT,
+            Status::Ok,
+        ),
+        (
+            "OIL_VERSION = \"2.5\";\nCPU C {",
+            Failing::Nothing,
+            "oil line 2 Expected\n",
+            Status::Input,
+        ),
+        (
+            "OIL_VERSION=\"2.5\";CPU A{#include};",
+            Failing::Nothing,
+            "oil line 1 Include\n",
+            Status::Input,
+        ),
+        (
+            "OIL_VERSION=\"2.5\";\nCPU /* A{};\n",
+            Failing::Nothing,
+            "oil line 2 Comment\n",
+            Status::Input,
+        ),
+        (
+            ONE_PRIORITY_FOR_TWO,
+            Failing::Nothing,
+            "model object 3 SamePriority\n",
+            Status::Input,
+        ),
+        (
+            INTERNAL_AND_NOT_PREEMPTABLE,
+            Failing::Nothing,
+            "model object 3 BadValue\n",
+            Status::Input,
+        ),
+        (
+            "OIL_VERSION=\"2.5\";CPU A{};",
+            Failing::Nothing,
+            "model object 0 Missing\n",
+            Status::Input,
+        ),
+        (ONE_TASK, Failing::Read, "read a\n", Status::ReadFault),
+        (ONE_TASK, Failing::Write, "", Status::WriteFault),
+    ] {
+        let (ended, out) = shown(rt.alloc(), file.as_bytes(), failing)?;
+        assert_eq!(rt; ended, status);
+        assert_eq!(rt; out.written(), text.as_bytes());
+    }
+    Ok(())
+}
+
+#[test]
+fn a_file_past_its_limit_is_refused_by_its_length(rt: HostRuntime) -> Result<(), Fail> {
+    let mut text = Vec::new(rt.alloc());
+    for _byte in 0..1_048_577_u32 {
+        text.push(b' ')?;
+    }
+    let (ended, out) = shown(rt.alloc(), text.as_slice(), Failing::Nothing)?;
+    assert_eq!(rt; ended, Status::Input);
+    assert_eq!(rt; out.written(), b"long a 1048577\n");
+    Ok(())
+}
+
+#[test]
+fn a_ray_is_written_without_its_zeros(rt: HostRuntime) -> Result<(), Fail> {
+    let costs = Row::from_slice(rt.alloc(), &[0, 1])?;
+    let mut rows = Rows::made(rt.alloc(), &costs)?;
+    rows.push_row(&Terms::new(rt.alloc()), 1)?;
+    let answer = bound_answer(rt.alloc(), "T", &rows, 9)?;
+    assert_eq!(rt; answer.status(), Status::Unbounded);
+    assert_eq!(rt; answer.text(), b"unbounded\n1 1\n");
     Ok(())
 }
