@@ -19,6 +19,16 @@ use Rattle.syswcet.proofs.LoneLaws.{IsOwn, own_as, not_ok, long_not_ok}
 
 -- ---- from what was read to the answer
 
+-- the tree stands for a system
+pub tree_shown : {E : Type 0} (tree : Tree) (r : Result AnswerData E) → model_fault_of tree ≡ None
+    → IfOk r (λ made. made ≡ answer status.Ok (layout_of tree)) → IfOk r (λ made. made ≡ tree_answer (model_fault_of tree) tree)
+tree_shown tree r sound is = rw sound is
+
+-- an object breaks a rule
+pub tree_refused : {E : Type 0} (tree : Tree) (object : ℕ) (kind : ModelKind) (r : Result AnswerData E) → model_fault_of tree ≡ Some (object, kind)
+    → IfOk r (λ made. made ≡ model_answer object kind) → IfOk r (λ made. made ≡ tree_answer (model_fault_of tree) tree)
+tree_refused tree object kind r broken is = rw broken is
+
 -- the text has the tree
 pub text_of_tree : {E : Type 0} (bytes : List ℕ) (tree : Tree) (r : Result AnswerData E) → IsTextOf tree bytes
     → IfOk r (λ made. made ≡ tree_answer (model_fault_of tree) tree) → IfOk r (AnswersText bytes)

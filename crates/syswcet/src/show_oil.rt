@@ -1,6 +1,8 @@
 //! `show oil OIL` reads an OIL file, judges what it says, and writes it in the one layout.
-ghost use Rattle.std.specs.Prelude.{◌≡◌, ◌++◌, [], ◌∷◌, IfOk, codes, string_bytes};
+ghost use Rattle.std.specs.Prelude.{◌≡◌, ◌++◌, [], ◌∷◌, IfOk, IfErr, codes, string_bytes};
 ghost use Rattle.std.specs.Fmt.{decimal};
+ghost use Rattle.oil_grammar.specs.Faults.{IsRefusalOf};
+ghost use Rattle.oil_grammar.specs.Grammar.{IsTextOf};
 ghost use Rattle.oil_grammar.specs.Layout.{layout_of};
 ghost use Rattle.oil_model.specs.Meaning.{model_fault_of};
 ghost use Rattle.syswcet.specs.Reports.{answer, newline};
@@ -37,11 +39,19 @@ pub fn show_oil<F: Files>(alloc: Global, oil: &Text, files: &mut F) -> Result<An
 fn show_text(alloc: Global, bytes: &Bytes) -> Result<Answer, Memory>
     ensures { IfOk result (AnswersText bytes.now) }
 {
-    match read_oil(alloc, bytes.as_slice()) {
+    match read_tree(alloc, bytes) {
         Ok(tree) => show_tree(alloc, &tree),
         Err(OilFault::At { line, kind }) => oil_refusal(alloc, line, kind),
         Err(OilFault::Memory) => Err(Memory),
     }
+}
+
+/// The tree that the bytes have.
+fn read_tree(alloc: Global, bytes: &Bytes) -> Result<Tree, OilFault>
+    ensures ok { IfOk result (λ tree. IsTextOf tree bytes.now) }
+    ensures fault { IfErr result (IsRefusalOf bytes.now) }
+{
+    read_oil(alloc, bytes.as_slice())
 }
 
 /// The answer, where the text has this tree.
