@@ -384,7 +384,7 @@ fn a_file_past_its_limit_is_refused_by_its_length(rt: HostRuntime) -> Result<(),
     }
     let (ended, out) = shown(rt.alloc(), text.as_slice(), Failing::Nothing)?;
     assert_eq!(rt; ended, Status::Input);
-    assert_eq!(rt; out.written(), b"long a 1048577\n");
+    assert_eq!(rt; out.written(), b"long a 1048577\n".as_slice());
     Ok(())
 }
 
@@ -395,6 +395,6 @@ fn a_ray_is_written_without_its_zeros(rt: HostRuntime) -> Result<(), Fail> {
     rows.push_row(&Terms::new(rt.alloc()), 1)?;
     let answer = bound_answer(rt.alloc(), "T", &rows, 9)?;
     assert_eq!(rt; answer.status(), Status::Unbounded);
-    assert_eq!(rt; answer.text(), b"unbounded\n1 1\n");
+    assert_eq!(rt; answer.text(), b"unbounded\n1 1\n".as_slice());
     Ok(())
 }
