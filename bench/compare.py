@@ -3,8 +3,8 @@
 
     bench/compare.py PROGRAM [FILE.json ..]
 
-PROGRAM is the built `solve_rows`. Without files, the lists in bench/rows and three generated ones
-are taken. Each list is solved by each program in turn, in the same run; the peers get it in LP
+PROGRAM is the built `solve_rows`. Without files, the lists in bench/rows, these lists side by side,
+and four generated ones are taken. Each list is solved by each program in turn, in the same run; the peers get it in LP
 format. Printed are the milliseconds of each (for `solve` the call alone, for a peer its whole run),
 the ratios peer / solve, and whether the values agree. A peer that isn't installed is skipped.
 """
@@ -17,6 +17,7 @@ import subprocess
 import sys
 import tempfile
 import time
+from collections import Counter
 from fractions import Fraction
 
 HERE = os.path.dirname(os.path.abspath(__file__))
@@ -33,6 +34,57 @@ def chains(columns, seed):
         terms = [[source, -1] for source in sources] + [[column, 1]]
         rows.append({"terms": terms, "right": 0})
     rows.append({"terms": [[c, pick.randrange(1, 50)] for c in range(0, columns, 3)], "right": 4000})
+    return {"costs": costs, "rows": rows}
+
+
+def flows(columns, seed):
+    """Rows of the edges of a flow graph with branches and loops whose turns are bounded, and of tasks
+    whose arrivals the cycles of all edges bound: their tables fill, and many pivot entries aren't 1."""
+    pick = random.Random(seed)
+    nodes = int(0.88 * columns)
+    edges = [(node - 1, node) for node in range(nodes)]
+    loops = {}
+    while len(edges) < columns:
+        start = pick.randrange(nodes - 1)
+        if len(loops) < 20:
+            end = max(0, start - pick.randrange(1, 12))
+            loops[len(edges)] = end
+        else:
+            end = min(nodes - 1, start + pick.randrange(2, 12))
+        edges.append((start, end))
+    costs = [pick.randrange(1, 60) for _ in edges]
+    rows = []
+
+    def row(entries, right):
+        rows.append({"terms": [[c, x] for c, x in sorted(entries.items()) if x], "right": right})
+
+    row({0: 1}, 1)
+    for node in range(nodes - 1):
+        entries = Counter(edge for edge, ends in enumerate(edges) if ends[0] == node)
+        entries.subtract(edge for edge, ends in enumerate(edges) if ends[1] == node)
+        row(entries, 0)
+    for back, end in loops.items():
+        entries = {edge: -pick.randrange(2, 9) for edge, ends in enumerate(edges) if ends[1] == end}
+        row({**entries, back: 1}, 0)
+    arrivals = sorted(pick.sample(range(1, nodes), 30))
+    for task in range(5):
+        period = pick.choice((5000, 10000, 20000, 50000))
+        entries = {edge: -cost for edge, cost in enumerate(costs)}
+        for edge in arrivals[task::5]:
+            entries[edge] += period
+        row(entries, 2 * period)
+    return {"costs": costs, "rows": rows}
+
+
+def side_by_side(lists):
+    """The rows of several lists, each over columns of its own."""
+    costs, rows = [], []
+    for data in lists:
+        first = len(costs)
+        costs += data["costs"]
+        for row in data["rows"]:
+            terms = [[first + column, entry] for column, entry in row["terms"]]
+            rows.append({"terms": terms, "right": row["right"]})
     return {"costs": costs, "rows": rows}
 
 
@@ -85,11 +137,13 @@ def main():
         if not paths:
             kept = os.path.join(HERE, "rows")
             paths = sorted(os.path.join(kept, name) for name in os.listdir(kept))
-            for columns in (200, 400, 800):
-                path = os.path.join(folder, f"generated_{columns}.json")
-                with open(path, "w") as out:
-                    json.dump(chains(columns, columns), out)
-                paths.append(path)
+            made = {f"generated_{columns}": chains(columns, columns) for columns in (200, 400, 800)}
+            made["flows_930"] = flows(930, 1)
+            made["side_by_side"] = side_by_side([json.load(open(path)) for path in paths])
+            for name, data in made.items():
+                paths.append(os.path.join(folder, name + ".json"))
+                with open(paths[-1], "w") as out:
+                    json.dump(data, out)
         peers = [name for name in ("glpsol", "esolver") if shutil.which(name)]
         for name in ("glpsol", "esolver"):
             if name not in peers:

@@ -37,7 +37,7 @@ pub record IsEliminated (place : ℕ) (pivot row new : List ℤ) : Type 0 where
   pub is : map (λ x. scale *ℤ x) new ≡ combined factor row (entry row place) pivot
   pub by_pivot : (factor ≡ entry pivot place) ⊎ (entry row place ≡ pos 0)
 
-zero_from_test : (x : ℤ) → is_zero x ≡ true → x ≡ pos 0
+pub zero_from_test : (x : ℤ) → is_zero x ≡ true → x ≡ pos 0
 zero_from_test (pos zero) h = refl
 zero_from_test (pos (suc n)) h = absurd (grind (arith, nat_tests))
 zero_from_test (negsuc n) h = absurd (grind (arith, nat_tests))

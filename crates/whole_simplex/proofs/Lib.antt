@@ -24,3 +24,4 @@ pub mod Building
 pub mod Reading
 pub mod Multiples
 pub mod Turning
+pub mod Sparse

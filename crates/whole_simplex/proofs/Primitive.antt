@@ -1,5 +1,5 @@
 -- A row is a number above 0 times its primitive row.
-use Rattle.std.proofs.Common.{◌≡◌, ℕ, zero, suc, ◌*◌, ◌/◌, ◌%◌, ◌<◌, List, [], ◌∷◌, map, length, get_or, ℤ, pos, negsuc, ◌*ℤ◌, neg_ℤ, refl, sym, ap, ◌∙◌, subst, arith}
+use Rattle.std.proofs.Common.{◌≡◌, ◌≢◌, ℕ, zero, suc, ◌*◌, ◌/◌, ◌%◌, ◌<◌, List, [], ◌∷◌, map, length, get_or, ℤ, pos, negsuc, ◌*ℤ◌, neg_ℤ, refl, sym, ap, ◌∙◌, subst, arith}
 use Rattle.std.specs.Prelude.{unsigned_abs, int_div}
 use Rattle.std.specs.Int.{IsGcd, ◌∣◌}
 use Rattle.std.proofs.lemmas.Int.{ints}
@@ -7,7 +7,7 @@ use Rattle.std.proofs.lemmas.Nat.Gcd.{IsGcd-from_mod, IsGcd-from_zero, dvd_trans
 use Rattle.std.proofs.Math.Nat.{eq-zero_of_zero-dvd}
 use Rattle.std.proofs.Math.IntN.{zero-*ℤ, suc_ℤ-*ℤ}
 use Rattle.whole_simplex.proofs.Integers.{mul_neg}
-use Rattle.whole_rows.specs.Row.{gcd_within, nat_gcd, divisor_of, divided_by, primitive_of}
+use Rattle.whole_rows.specs.Row.{IsInRange, gcd_within, nat_gcd, divisor_of, divided_by, primitive_of}
 
 gcd_within-is : (steps x y : ℕ) → y < steps → IsGcd x y (gcd_within steps x y)
 unfolding gcd_within
@@ -62,19 +62,33 @@ multiple_back (suc n) row m = (n, scaled_back n row m)
 pub primitive_back : (row : List ℤ) → (g : ℕ) × (map (λ x. pos (suc g) *ℤ x) (primitive_of row) ≡ row)
 primitive_back row = multiple_back (divisor_of row) row (divisor_divides row)
 
--- ---- a row with an entry of 1 or -1
+-- ---- a row whose entries have no divisor but 1
 
-divides_entry : (g : ℕ) (row : List ℤ) (k : ℕ) (d : ℤ) → AreMultiples g row → k < length row → g ∣ unsigned_abs (get_or row k d)
-divides_entry g [] k d m h = absurd (omega arith)
-divides_entry g (x ∷ row) zero d m h = m.0
-divides_entry g (x ∷ row) (suc k) d m h = divides_entry g row k d m.1 (omega arith)
+pub divides_entry : (row : List ℤ) (k : ℕ) (d : ℤ) → k < length row → divisor_of row ∣ unsigned_abs (get_or row k d)
+divides_entry row k d h = entry_of_multiples (divisor_of row) row k d (divisor_divides row) h
+  where
+    entry_of_multiples : (g : ℕ) (row : List ℤ) (k : ℕ) (d : ℤ) → AreMultiples g row → k < length row → g ∣ unsigned_abs (get_or row k d)
+    entry_of_multiples g [] k d m h = absurd (omega arith)
+    entry_of_multiples g (x ∷ row) zero d m h = m.0
+    entry_of_multiples g (x ∷ row) (suc k) d m h = entry_of_multiples g row k d m.1 (omega arith)
 
 one_from : (g : ℕ) → g ∣ 1 → g ≡ 1
 one_from zero d = (let none : ◌≡◌ {A = ℕ} 1 0 = eq-zero_of_zero-dvd d in absurd (omega (arith, none)))
 one_from (suc g) d = (let above : 0 < 1 = omega arith in omega (arith, le_of_dvd above d))
 
-pub unit_is_primitive : (row : List ℤ) (k : ℕ) (d : ℤ) → k < length row → unsigned_abs (get_or row k d) ≡ 1 → primitive_of row ≡ row
-unit_is_primitive row k d h e =
-    let one : divisor_of row ≡ 1 = one_from (divisor_of row) (subst (λ n. divisor_of row ∣ n) e (divides_entry (divisor_of row) row k d (divisor_divides row) h)) in
+pub one_is_primitive : (row : List ℤ) → divisor_of row ∣ 1 → primitive_of row ≡ row
+one_is_primitive row d =
+    let one : divisor_of row ≡ 1 = one_from (divisor_of row) d in
     let all : AreMultiples 1 row = subst (λ n. AreMultiples n row) one (divisor_divides row) in
     ap (λ n. divided_by n row) one ∙ sym (one_times_row (divided_by 1 row)) ∙ scaled_back 0 row all
+
+-- what divides an entry and a divisor divides what they share
+pub shared_more : (row : List ℤ) (k : ℕ) (x divisor new : ℤ) → k < length row → x ≡ get_or row k (pos 0) → ((d : ℕ) → d ∣ unsigned_abs x → d ∣ unsigned_abs divisor → d ∣ unsigned_abs new) → divisor_of row ∣ unsigned_abs divisor → divisor_of row ∣ unsigned_abs new
+shared_more row k x divisor new h at_x shares before =
+    shares (divisor_of row) (subst (λ y. divisor_of row ∣ unsigned_abs y) (sym at_x) (divides_entry row k (pos 0) h)) before
+
+-- a divisor of a number in range that isn't 0 is in range
+pub divisor_in_range : (x : ℤ) (g : ℕ) → x ≢ pos 0 → IsInRange x → g ∣ unsigned_abs x → IsInRange (pos g)
+divisor_in_range (pos zero) g h r d = absurd (h refl)
+divisor_in_range (pos (suc n)) g h r d = (let above : 0 < suc n = omega arith in omega (arith, le_of_dvd above d))
+divisor_in_range (negsuc n) g h r d = (let above : 0 < suc n = omega arith in omega (arith, le_of_dvd above d))

@@ -2,3 +2,4 @@ pub mod Tables
 pub mod Outcome
 pub mod Answers
 pub mod Faults
+pub mod Places

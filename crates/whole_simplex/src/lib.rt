@@ -3,10 +3,13 @@
 //! number that would leave its range is reported, and none is rounded.
 #![tactic(auto)]
 
+mod combining;
+mod dividing;
 mod exact;
 mod line;
 mod optimal;
 mod pivot;
+mod places;
 mod ratio_test;
 mod rays;
 mod solving;

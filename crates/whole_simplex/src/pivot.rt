@@ -1,38 +1,34 @@
-ghost use Rattle.std.specs.Prelude.{◌≡◌, ◌<◌, length, All, IsTrue, Some, slice_get};
-ghost use Rattle.whole_rows.specs.Row.{primitive_of};
+ghost use Rattle.std.specs.Prelude.{◌≡◌, ◌<◌, length, All, Some, slice_get};
+ghost use Rattle.whole_rows.specs.Row.{combination};
 ghost use Rattle.whole_simplex.specs.Faults.{Eliminates, EliminatesAll, Pivots};
+ghost use Rattle.whole_simplex.specs.Places.{BecomesCombination, places_of};
 ghost use Rattle.whole_simplex.specs.Tables.{AreDistinct};
 
+use crate::combining::{combine_all, subtract};
+use crate::dividing::make_primitive;
 use crate::line::{Line, entry};
+use crate::places::places_of;
 use std::alloc::Global;
-use whole_rows::{Row, RowFault, combine, primitive};
+use whole_rows::{Row, RowFault};
 
-/// Whether an entry is 1 or -1; the row is primitive then.
-fn has_unit(row: &Row) -> bool
-    ensures { IsTrue result → primitive_of row.now ≡ row.now }
+/// Combines the row with the pivot row, which has the entry `p` at the entering place and the given
+/// places that aren't 0.
+fn reduce(row: &mut Row, p: i128, pivot: &Row, a: i128, places: &[usize]) -> Result<(), RowFault>
+    requires same { length row.old ≡ length pivot.now }
+    requires places { places.now ≡ places_of pivot.now }
+    ensures { BecomesCombination (combination row.old p pivot.now a) row.new result }
 {
-    for place in 0..row.len() {
-        let size = entry(row, place).unsigned_abs();
-        if size == 1 {
-            return true;
-        }
+    if p == 1 {
+        return subtract(row, pivot, a, places);
     }
-    false
-}
-
-/// Divides the row by its greatest common divisor. Most rows have an entry of 1 and are left.
-fn make_primitive(row: &mut Row)
-    ensures { row.new ≡ primitive_of row.old }
-{
-    if !has_unit(row) {
-        primitive(row);
-    }
+    combine_all(row, p, pivot, a)
 }
 
 /// Makes the row 0 at the place by means of the pivot row, and primitive. A row that is 0 there
 /// already isn't touched.
-fn eliminate(alloc: Global, row: &mut Row, pivot: &Row, place: usize) -> Result<(), RowFault>
+fn eliminate(row: &mut Row, pivot: &Row, places: &[usize], place: usize) -> Result<(), RowFault>
     requires same { length row.old ≡ length pivot.now }
+    requires places { places.now ≡ places_of pivot.now }
     requires place { place < length pivot.now }
     ensures { Eliminates place pivot.now row.old row.new result }
 {
@@ -40,10 +36,10 @@ fn eliminate(alloc: Global, row: &mut Row, pivot: &Row, place: usize) -> Result<
     if a == 0 {
         return Ok(());
     }
-    match combine(alloc, row, entry(pivot, place), pivot, a) {
-        Ok(combined) => {
-            *row = combined;
-            make_primitive(row);
+    let p = entry(pivot, place);
+    match reduce(row, p, pivot, a, places) {
+        Ok(()) => {
+            make_primitive(row, p == 1);
             Ok(())
         }
         Err(fault) => Err(fault),
@@ -52,18 +48,19 @@ fn eliminate(alloc: Global, row: &mut Row, pivot: &Row, place: usize) -> Result<
 
 /// Eliminates the entering place from each of the lines.
 fn eliminate_all(
-    alloc: Global,
     lines: &mut [Line],
     pivot: &Row,
+    places: &[usize],
     place: usize,
 ) -> Result<(), RowFault>
     requires same { All (λ line. length line.entries ≡ length pivot.now) lines.old }
+    requires places { places.now ≡ places_of pivot.now }
     requires place { place < length pivot.now }
     ensures { EliminatesAll place pivot.now lines.old lines.new result }
 {
     for i in 0..lines.len() {
         let line = &mut lines[i];
-        match eliminate(alloc, &mut line.entries, pivot, place) {
+        match eliminate(&mut line.entries, pivot, places, place) {
             Ok(()) => {}
             Err(fault) => return Err(fault),
         }
@@ -93,15 +90,19 @@ pub fn pivot(
         Some(parts) => parts,
         None => unreachable!(),
     };
-    match eliminate_all(alloc, before, &pivot.entries, place) {
+    let places = match places_of(alloc, &pivot.entries) {
+        Ok(places) => places,
+        Err(_) => return Err(RowFault::Memory),
+    };
+    match eliminate_all(before, &pivot.entries, places.as_slice(), place) {
         Ok(()) => {}
         Err(fault) => return Err(fault),
     }
-    match eliminate_all(alloc, after, &pivot.entries, place) {
+    match eliminate_all(after, &pivot.entries, places.as_slice(), place) {
         Ok(()) => {}
         Err(fault) => return Err(fault),
     }
-    match eliminate(alloc, objective, &pivot.entries, place) {
+    match eliminate(objective, &pivot.entries, places.as_slice(), place) {
         Ok(()) => {}
         Err(fault) => return Err(fault),
     }

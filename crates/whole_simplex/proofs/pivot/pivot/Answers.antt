@@ -48,17 +48,17 @@ eliminate-requires-clause-place c =
     let own : length c.in-Some.parts.0.now.entries ≡ length c.args.objective.now = lengths.1 in
     omega (arith, own, c.requires.place)
 
-pub returns-in-Err : goal.returns-in-Err
-returns-in-Err c = λ same at.
-    let parts : c.args.lines.now ≡ c.split_at_mut-before.result.0.now ++ c.in-Some.parts.0.now ∷ c.in-Some.parts.1.now =
-    c.split_at_mut-before.ensures.value ∙ ap (λ l. c.split_at_mut-before.result.0.now ++ l) c.in-Some.ensures.cases.0 in
-    fault_before c.args.place c.args.lines.now c.split_at_mut-before.result.0.now c.in-Some.parts.1.now c.in-Some.parts.0.now same parts c.requires.distinct c.args.leaving at c.split_at_mut-before.ensures.front_len c.args.objective.now c.in-Err.fault c.in-Err.ensures
-
 pub returns-in-Err-eliminate_all : goal.returns-in-Err-eliminate_all
 returns-in-Err-eliminate_all c = λ same at.
     let parts : c.args.lines.now ≡ c.split_at_mut-before.result.0.now ++ c.in-Some.parts.0.now ∷ c.in-Some.parts.1.now =
     c.split_at_mut-before.ensures.value ∙ ap (λ l. c.split_at_mut-before.result.0.now ++ l) c.in-Some.ensures.cases.0 in
-    fault_after c.args.place c.args.lines.now c.split_at_mut-before.result.0.now c.in-Some.parts.1.now c.in-Some.parts.0.now same parts c.requires.distinct c.args.leaving at c.split_at_mut-before.ensures.front_len c.args.objective.now c.in-Err-eliminate_all.fault c.in-Err-eliminate_all.ensures
+    fault_before c.args.place c.args.lines.now c.split_at_mut-before.result.0.now c.in-Some.parts.1.now c.in-Some.parts.0.now same parts c.requires.distinct c.args.leaving at c.split_at_mut-before.ensures.front_len c.args.objective.now c.in-Err-eliminate_all.fault c.in-Err-eliminate_all.ensures
+
+pub returns-in-Err-eliminate_all-2 : goal.returns-in-Err-eliminate_all-2
+returns-in-Err-eliminate_all-2 c = λ same at.
+    let parts : c.args.lines.now ≡ c.split_at_mut-before.result.0.now ++ c.in-Some.parts.0.now ∷ c.in-Some.parts.1.now =
+    c.split_at_mut-before.ensures.value ∙ ap (λ l. c.split_at_mut-before.result.0.now ++ l) c.in-Some.ensures.cases.0 in
+    fault_after c.args.place c.args.lines.now c.split_at_mut-before.result.0.now c.in-Some.parts.1.now c.in-Some.parts.0.now same parts c.requires.distinct c.args.leaving at c.split_at_mut-before.ensures.front_len c.args.objective.now c.in-Err-eliminate_all-2.fault c.in-Err-eliminate_all-2.ensures
 
 pub returns-in-Err-eliminate : goal.returns-in-Err-eliminate
 returns-in-Err-eliminate c = λ same at.
@@ -73,7 +73,7 @@ returns c = λ same at.
     let before = c.split_at_mut-before.result.0.now in
     let after = c.in-Some.parts.1.now in
     let pivot = c.in-Some.parts.0.now in (
-      pivots_lines c.args.place c.args.lines.now before after pivot same parts c.requires.distinct c.args.leaving at c.split_at_mut-before.ensures.front_len c.eliminate_all.new.lines c.eliminate_all-2.new.lines c.in-Ok.ensures.0 c.in-Ok-eliminate_all.ensures.0,
+      pivots_lines c.args.place c.args.lines.now before after pivot same parts c.requires.distinct c.args.leaving at c.split_at_mut-before.ensures.front_len c.eliminate_all.new.lines c.eliminate_all-2.new.lines c.in-Ok-eliminate_all.ensures.0 c.in-Ok-eliminate_all-2.ensures.0,
       pivots_row c.args.place c.args.lines.now before after pivot same parts c.requires.distinct c.args.leaving at c.split_at_mut-before.ensures.front_len c.args.objective.now c.eliminate.new.row c.in-Ok-eliminate.ensures.0,
-      pivots_narrow c.args.place c.args.lines.now before after pivot same parts c.requires.distinct c.args.leaving at c.split_at_mut-before.ensures.front_len c.args.objective.now c.in-Ok.ensures.1 c.in-Ok-eliminate_all.ensures.1 c.in-Ok-eliminate.ensures.1,
+      pivots_narrow c.args.place c.args.lines.now before after pivot same parts c.requires.distinct c.args.leaving at c.split_at_mut-before.ensures.front_len c.args.objective.now c.in-Ok-eliminate_all.ensures.1 c.in-Ok-eliminate_all-2.ensures.1 c.in-Ok-eliminate.ensures.1,
     )
