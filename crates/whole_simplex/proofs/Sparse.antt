@@ -27,12 +27,6 @@ pub place_within : (places : List ℕ) (pivot : List ℤ) (i : ℕ) → places �
 place_within places pivot i e h =
     All-get_or (λ k. k < length pivot) places i 0 h (subst (λ (ks : List ℕ). All (λ k. k < length pivot) ks) (sym e) (All-weaker (λ k. k < 0 + length pivot) (λ k. k < length pivot) (λ k l. omega arith) (places_of pivot) (places_within 0 pivot)))
 
--- the places of the entries so far, before those of the entries that follow
-pub places_more : (row : List ℤ) (i : ℕ) (places : List ℕ) → i < length row → places_of row ≡ places ++ places_from i (drop i row) → places_of row ≡ places ++ cond (is_zero (entry row i)) (places_from (i + 1) (drop (i + 1) row)) (i ∷ places_from (i + 1) (drop (i + 1) row))
-places_more row i places h before =
-    let next : i + 1 ≡ suc i = omega arith in
-    before ∙ ap (λ (r : List ℤ). places ++ places_from i r) (drop_more row i (pos 0) h) ∙ rw next refl
-
 -- ---- one place after the other
 
 abbrev pub subtract_next : Result ℤ (ℤ × ℤ) → (ℤ → Result (List ℤ) (ℤ × ℤ)) → Result (List ℤ) (ℤ × ℤ)
