@@ -261,6 +261,7 @@ fn resources_and_alarms_of_a_plant(rt: HostRuntime) -> Result<(), Fail> {
         b"RES_SCHEDULER".as_slice()
     );
     assert_eq!(rt; system.resources.get(3).ceiling, 9);
+    assert_eq!(rt; system.alarms.len(), 2);
     let tick = system.alarms.get(0);
     assert_eq!(rt; tick.counter, 1);
     assert_eq!(rt; tick.task, 2);
