@@ -1,5 +1,5 @@
 -- What follows from the answer of `bound lone`.
-use Rattle.std.proofs.Common.{◌≡◌, ℕ, ℤ, pos, unsigned_abs, List, Option, Some, None, Result, Ok, Err, sym, ◌∙◌, ap, subst}
+use Rattle.std.proofs.Common.{◌≡◌, ℕ, pos, unsigned_abs, List, Option, Some, None, Result, Ok, Err, ◌∙◌, ap, subst}
 use Rattle.wcet_io.specs.Files.{Told}
 use Rattle.elf_image.specs.Image.{ImageData}
 use Rattle.certificate.specs.declared.states.AbsState.{AbsState}

@@ -5,12 +5,11 @@ use Rattle.elf_image.specs.Image.{ImageData}
 use Rattle.elf_image.specs.Flat.{flat_of}
 use Rattle.elf_image.specs.declared.fault.ElfKind.{ElfKind}
 use Rattle.lone_image.specs.Forward.{IsForward}
-use Rattle.lone_image.specs.LoneMachine.{LastsAtMost}
 use Rattle.syswcet.specs.declared.status.Status.{Status}
 use Rattle.syswcet.specs.declared.status.Status.TheVariants as status
 use Rattle.syswcet.specs.Reports.{AnswerData, input_answer, long_answer, unaligned_answer}
 use Rattle.syswcet.specs.Files.{Holds}
-use Rattle.syswcet.specs.LoneFiles.{image_limit, beside_limit, AnswersBeside, AnswersFlat, AnswersImage, AnswersFile, IsLoneAnswer, BoundsImage}
+use Rattle.syswcet.specs.LoneFiles.{image_limit, beside_limit, AnswersBeside, AnswersFlat, AnswersImage, AnswersFile, IsLoneAnswer}
 
 -- ---- the statuses that an answer has
 

@@ -1,12 +1,12 @@
 -- From what `solve` answers to the answer of the task.
-use Rattle.std.proofs.Common.{◌≡◌, ℕ, List, length, map, ℤ, pos, ◌≤ℤ◌, unsigned_abs, Contains, Option, Some, None, Result, Ok, Err, refl, sym, ◌∙◌, ap, subst}
+use Rattle.std.proofs.Common.{◌≡◌, ℕ, List, length, map, ℤ, unsigned_abs, Some, Result, Ok, Err, refl, ◌∙◌, ap, subst}
 use Rattle.std.specs.Prelude.{IfOk, IfErr}
 use Rattle.whole_rows.specs.Rows.{RowsData}
 use Rattle.whole_rows.specs.Greatest.{IsGreatest, IsRay}
 use Rattle.whole_simplex.specs.declared.Optimum.{Optimum}
 use Rattle.whole_simplex.specs.declared.SolveFault.{SolveFault}
 use Rattle.whole_simplex.specs.declared.SolveFault.TheVariants.{Unbounded, Pivots, Entries, Wide, Multiplier, Memory}
-use Rattle.whole_simplex.specs.Answers.{IsOptimum, IsUnbounded, IsUnboundedFault}
+use Rattle.whole_simplex.specs.Answers.{IsOptimum, IsUnboundedFault}
 use Rattle.whole_simplex.specs.Outcome.{Outcome, TooLarge, Greatest, LargeMultiplier, Direction, Limit, TooWide, SaysOutcome}
 use Rattle.syswcet.specs.declared.status.Status.TheVariants as status
 use Rattle.syswcet.specs.Reports.{AnswerData}

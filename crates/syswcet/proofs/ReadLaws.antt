@@ -1,5 +1,5 @@
 -- From the answers of what is read to the answer of the command.
-use Rattle.std.proofs.Common.{◌≡◌, ℕ, List, [], ◌∷◌, Option, Some, Result, Ok, Err, inl, inr, sym, ◌∙◌, subst}
+use Rattle.std.proofs.Common.{◌≡◌, ℕ, List, [], ◌∷◌, Option, Some, Result, Ok, Err, inl, inr, ◌∙◌, subst}
 use Rattle.std.specs.Prelude.{IfOk}
 use Rattle.std.proofs.lemmas.List.Elements.{Contains-append_right}
 use Rattle.wcet_io.specs.Causes.{Rose}
@@ -9,15 +9,13 @@ use Rattle.certificate.specs.declared.fault.CertKind.{CertKind}
 use Rattle.certificate.specs.declared.fault.CertFault.TheVariants as cert_faults
 use Rattle.certificate.specs.declared.fault.StatesKind.{StatesKind}
 use Rattle.certificate.specs.declared.fault.StatesFault.TheVariants as states_faults
-use Rattle.certificate.specs.declared.states.AbsState.{AbsState}
 use Rattle.certificate.specs.Answers.{AnswersCert, AnswersStates as SaysStates}
 use Rattle.lone_image.specs.LoneStates.{lone_rules}
-use Rattle.syswcet.specs.declared.words.Command.{Command}
 use Rattle.syswcet.specs.Reports.{AnswerData, input_answer}
-use Rattle.syswcet.specs.Words.{command_of, word}
+use Rattle.syswcet.specs.Words.{word}
 use Rattle.syswcet.specs.LoneFiles.{image_limit, beside_limit, lone_task, AnswersForward, AnswersImage, IsLoneAnswer}
 use Rattle.syswcet.specs.CheckLone.{AnswersCertificate}
-use Rattle.syswcet.specs.BoundLone.{AnswersClosure, AnswersStates}
+use Rattle.syswcet.specs.BoundLone.{AnswersStates}
 use Rattle.syswcet.specs.Run.{Reads, FollowsReads}
 
 -- bytes that have no certificate

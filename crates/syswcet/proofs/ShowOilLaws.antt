@@ -1,5 +1,5 @@
 -- What follows from the answer of `show oil`.
-use Rattle.std.proofs.Common.{◌≡◌, ℕ, ◌+◌, List, [], ◌∷◌, Option, Some, None, Result, Ok, Err, inl, inr, refl, sym, ◌∙◌, ap, subst}
+use Rattle.std.proofs.Common.{◌≡◌, ℕ, ◌+◌, List, [], ◌∷◌, Option, Some, None, Result, Ok, Err, inl, inr, refl, ap, subst}
 use Rattle.std.specs.Prelude.{IfOk}
 use Rattle.wcet_io.specs.Files.{IsWhole, Told}
 use Rattle.oil_grammar.specs.declared.fault.OilFault.TheVariants.{At}

@@ -2,11 +2,11 @@
 ghost use Rattle.std.specs.Prelude.{◌^◌, ◌<◌, IfOk};
 ghost use Rattle.certificate.specs.Answers.{AnswersStates as SaysStates};
 ghost use Rattle.lone_image.specs.LoneRows.{lone_rows};
-ghost use Rattle.lone_image.specs.LoneStates.{lone_rules, first_open};
+ghost use Rattle.lone_image.specs.LoneStates.{lone_rules};
 ghost use Rattle.whole_simplex.specs.Outcome.{outcome_of};
 ghost use Rattle.syswcet.specs.LoneFiles.{lone_task};
 ghost use Rattle.syswcet.specs.Outcomes.{AnswersOutcome};
-ghost use Rattle.syswcet.specs.BoundLone.{AnswersStates, AnswersClosure};
+ghost use Rattle.syswcet.specs.BoundLone.{AnswersStates};
 
 use crate::answer::Answer;
 use crate::outcome::bound_answer;

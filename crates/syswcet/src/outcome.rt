@@ -1,8 +1,6 @@
 //! The answer for a task, by the outcome of its rows.
-ghost use Rattle.std.specs.Prelude.{◌≡◌, ◌++◌, Some, IfOk, string_bytes, unsigned_abs};
-ghost use Rattle.std.specs.Fmt.{decimal, signed_decimal};
+ghost use Rattle.std.specs.Prelude.{◌≡◌, ◌++◌, Some, IfOk, string_bytes};
 ghost use Rattle.whole_simplex.specs.Outcome.{outcome_of};
-ghost use Rattle.syswcet.specs.Reports.{newline};
 ghost use Rattle.syswcet.specs.Outcomes.{AnswersOutcome, ray_line, ray_text, solved_answer, bound_answer, pivots_answer, unbounded_answer, wide_answer};
 
 use crate::answer::{Answer, two_numbers};
