@@ -1,30 +1,24 @@
 ghost use Rattle.std.specs.Prelude.{◌≡◌, None, OnOk};
 ghost use Rattle.std.specs.Io.KnownBytes.{Appends};
+ghost use Rattle.wcet_io.specs.Causes.{HasCause, CountsOn};
+ghost use Rattle.wcet_io.specs.Sink.{Writes, is_failed};
 
 use crate::{Sink, SinkFault};
 use std::io::{ErrorKind, Write};
-use std::marker::Model;
 
-/// A real writer, such as standard output. Contracts see the count of writes that failed.
-/// It tells no bytes: that output shows what was written is shown by tests alone.
+/// A real writer, such as standard output, and the count of writes that failed.
+/// As a sink it tells no bytes: that standard output shows what was written is shown by tests alone.
 #[derive(Debug, Drop)]
 pub struct HostSink<W> {
     out: W,
     faults: u64,
 }
 
-impl<W> Model for HostSink<W> {
-    ghost use Rattle.std.specs.Prelude.{ℕ};
-
-    ghost Value = { ℕ };
-
-    ghost view = { λ sink. sink.faults };
-}
-
 impl<W: Write + Drop> HostSink<W> {
     /// A sink over this writer, whose writes have not failed.
     pub fn new(out: W) -> HostSink<W>
-        ensures { result ≡ 0 }
+        ensures writer { result.out ≡ out }
+        ensures faults { result.faults ≡ 0 }
     {
         HostSink { out, faults: 0 }
     }
@@ -33,9 +27,15 @@ impl<W: Write + Drop> HostSink<W> {
 impl<W: Write + Drop> Sink for HostSink<W> {
     ghost written = { λ _. None };
 
-    ghost faults = { λ sink. sink };
+    ghost faults = { λ sink. sink.faults };
 
-    fn write(&mut self, piece: &[u8]) -> Result<(), SinkFault> {
+    fn write(&mut self, piece: &[u8]) -> Result<(), SinkFault>
+        ensures appends { Writes result None piece.now None }
+        ensures cause { HasCause (is_failed result) self.old.faults self.new.faults }
+        ensures faults_go_on { CountsOn self.old.faults self.new.faults }
+        // What the writer tells of its bytes grows by the piece.
+        ensures whole { OnOk result (Appends (W.contents self.old.out) (W.contents self.new.out) piece.now) }
+    {
         let answer = write_whole(&mut self.out, piece);
         if answer == Err(SinkFault::Failed) {
             self.faults = self.faults.saturating_add(1);
