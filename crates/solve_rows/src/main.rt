@@ -50,3 +50,6 @@ fn main(rt: HostRuntime) -> Result<()> {
     }
     Ok(())
 }
+
+#[cfg(test)]
+mod tests;
