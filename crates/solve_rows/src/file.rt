@@ -1,96 +1,184 @@
-ghost use Rattle.std.specs.Prelude.{◌≡◌, ◌≢◌, ◌<◌, ◌≤◌, All, IfOk, length, pos};
-ghost use Rattle.whole_rows.specs.Row.{AreInRange, IsInRange};
-ghost use Rattle.whole_rows.specs.Terms.{AreTerms};
+//! The rows that a JSON value is.
 
-use anyhow::{Result, anyhow};
+ghost use Rattle.std.specs.Prelude.{◌≡◌, ◌<◌, ◌≤ℤ◌, All, IfOk, IfSome, length, map, option_map, pos};
+ghost use Rattle.serde_json.specs.View.{view};
+ghost use Rattle.json_fields.specs.Lists.{all_of};
+ghost use Rattle.json_fields.specs.Refusals.{Gives};
+ghost use Rattle.whole_rows.specs.Row.{IsInRange};
+ghost use Rattle.whole_rows.specs.Terms.{IsTerm, AreTerms};
+ghost use Rattle.solve_rows.specs.RowsFile as words;
+
+use json_fields::{Refusal, list_in};
+use listed::ListedNumbers;
 use serde_json::Value;
 use std::alloc::Global;
 use whole_rows::{Row, Rows, Term, Terms};
 
-fn number(value: &Value) -> Result<i64> {
-    value.as_i64().ok_or(anyhow!("no number"))
+/// A row of a file: its terms, and its right side.
+#[derive(Drop)]
+struct FileRow {
+    terms: Terms,
+    right: i64,
 }
 
-fn list(value: &Value) -> Result<&Vec<Value>> {
-    value.as_array().ok_or(anyhow!("no list"))
-}
-
-fn member<'a>(value: &'a Value, name: &str) -> Result<&'a Value> {
-    value.get(name).ok_or(anyhow!("no such member"))
-}
-
-fn costs_of(alloc: Global, value: &Value) -> Result<Row> {
-    let list = list(value)?;
-    let mut costs = Vec::new(alloc);
-    for i in 0..list.len() {
-        costs.push(i128::from(number(&list[i])?))?;
-    }
-    Ok(Row::from_vec(costs))
-}
-
-/// Adds a term behind those before it, whose columns are below `next`.
-fn push_term(
-    terms: &mut Terms,
-    columns: usize,
-    next: usize,
-    column: usize,
-    entry: i64,
-) -> Result<()>
-    requires terms { AreTerms columns terms.old }
-    requires next { All (λ term. term.column < next) terms.old }
-    ensures terms { IfOk result (λ _. AreTerms columns terms.new) }
-    ensures next { IfOk result (λ _. All (λ term. term.column ≤ column) terms.new) }
+/// The rows of `{"costs": [..], "rows": [{"terms": [[COLUMN, ENTRY], ..], "right": NUMBER}, ..]}`.
+/// A row has its terms in order of columns, none with the entry 0, and no negative right side.
+#[tactic(auto, unfolding(crate::specs::RowsFile::rows_in))]
+pub fn rows_of(alloc: Global, value: &Value) -> Result<Rows, Refusal>
+    ensures { Gives result (words.rows_in (view value.now)) }
 {
-    if column < next || column >= columns || entry == 0 {
-        return Err(anyhow!("no terms in order"));
-    }
-    terms
-        .push(Term {
-            column,
-            entry: i128::from(entry),
-        })
-        .map_err(|_| anyhow!("out of memory"))
+    let costs = list_at(value, "costs").ok_or(Refusal::Refused)?;
+    let costs = costs_of(alloc, costs)?;
+    let rows = list_at(value, "rows").ok_or(Refusal::Refused)?;
+    each_row(alloc, Rows::made(alloc, &costs)?, rows)
 }
 
-/// The terms of a list of pairs, each a column and an entry.
-fn terms_of(alloc: Global, value: &Value, columns: usize) -> Result<Terms>
-    ensures { IfOk result (λ terms. AreTerms columns terms) }
+fn costs_of(alloc: Global, values: &[Value]) -> Result<Row, Refusal>
+    ensures { Gives result (all_of words.integer_in (map view values.now)) }
 {
-    let pairs = list(value)?;
-    let mut terms = Terms::new(alloc);
-    let mut next = 0;
-    for i in 0..pairs.len() {
-        let pair = list(&pairs[i])?;
-        if pair.len() != 2 {
-            return Err(anyhow!("no pair"));
+    let mut costs = ListedNumbers::new(alloc);
+    for value in values {
+        match cost_in(value) {
+            Some(cost) => costs.push(cost)?,
+            None => return Err(Refusal::Refused),
         }
-        let column = match usize::try_from(number(&pair[0])?) {
-            Ok(column) => column,
-            Err(_) => return Err(anyhow!("no column")),
-        };
-        push_term(&mut terms, columns, next, column, number(&pair[1])?)?;
-        next = column + 1;
+    }
+    Ok(Row::from_vec(costs.into_vec()))
+}
+
+fn cost_in(value: &Value) -> Option<i128>
+    ensures value { result ≡ words.integer_in (view value.now) }
+    ensures in_range { IfSome result IsInRange }
+{
+    let cost = value.as_i64()?;
+    Some(i128::from(cost))
+}
+
+/// The rows with those of the values behind them.
+fn each_row(alloc: Global, before: Rows, values: &[Value]) -> Result<Rows, Refusal>
+    ensures { Gives result (option_map (words.with_rows before)
+        (all_of (words.row_in (length before.costs)) (map view values.now))) }
+{
+    let columns = before.column_count();
+    let mut rows = before;
+    for value in values {
+        let row = row_of(alloc, columns, value)?;
+        rows.push_row(&row.terms, i128::from(row.right))?;
+    }
+    Ok(rows)
+}
+
+#[tactic(auto, unfolding(crate::specs::RowsFile::row_in))]
+fn row_of(alloc: Global, columns: usize, value: &Value) -> Result<FileRow, Refusal>
+    ensures row { Gives result (words.row_in columns (view value.now)) }
+    ensures terms { IfOk result (λ row. AreTerms columns row.terms) }
+    ensures right { IfOk result (λ row. pos 0 ≤ℤ row.right) }
+{
+    let terms = list_at(value, "terms").ok_or(Refusal::Refused)?;
+    let terms = terms_of(alloc, columns, terms)?;
+    let right = right_at(value).ok_or(Refusal::Refused)?;
+    Ok(FileRow { terms, right })
+}
+
+/// The terms that the values are, in order of columns.
+#[tactic(auto, unfolding(crate::specs::RowsFile::terms_of))]
+fn terms_of(alloc: Global, columns: usize, values: &[Value]) -> Result<Terms, Refusal>
+    ensures answer { Gives result (words.terms_of columns (map view values.now)) }
+    ensures terms { IfOk result (AreTerms columns) }
+{
+    let terms = each_term(alloc, columns, values)?;
+    if columns_rise(terms.as_slice()) {
+        Ok(terms)
+    } else {
+        Err(Refusal::Refused)
+    }
+}
+
+fn each_term(alloc: Global, columns: usize, values: &[Value]) -> Result<Terms, Refusal>
+    ensures answer { Gives result (all_of (words.term_in columns) (map view values.now)) }
+    ensures each { IfOk result (All (IsTerm columns)) }
+{
+    let mut terms = Terms::new(alloc);
+    for value in values {
+        match term_in(columns, value) {
+            Some(term) => terms.push(term)?,
+            None => return Err(Refusal::Refused),
+        }
     }
     Ok(terms)
 }
 
-fn push_row(alloc: Global, rows: &mut Rows, row: &Value) -> Result<()> {
-    let left = terms_of(alloc, member(row, "terms")?, rows.column_count())?;
-    let right = number(member(row, "right")?)?;
-    if right < 0 {
-        return Err(anyhow!("a right side is negative"));
+/// Whether each column lies below the next one.
+fn columns_rise(terms: &[Term]) -> bool
+    ensures { result ≡ words.columns_rise terms.now }
+{
+    let mut rest = terms;
+    while let Some((first, more)) = rest.split_first() {
+        if !is_below(first.column, more) {
+            return false;
+        }
+        rest = more;
     }
-    rows.push_row(&left, i128::from(right))
-        .map_err(|_| anyhow!("out of memory"))
+    true
 }
 
-/// The rows of `{"costs": [..], "rows": [{"terms": [[COLUMN, ENTRY], ..], "right": NUMBER}, ..]}`.
-pub fn rows_of(alloc: Global, data: &Value) -> Result<Rows> {
-    let costs = costs_of(alloc, member(data, "costs")?)?;
-    let mut rows = Rows::made(alloc, &costs).map_err(|_| anyhow!("out of memory"))?;
-    let list = list(member(data, "rows")?)?;
-    for i in 0..list.len() {
-        push_row(alloc, &mut rows, &list[i])?;
+fn is_below(column: usize, terms: &[Term]) -> bool
+    ensures { result ≡ words.is_below column terms.now }
+{
+    match terms {
+        [] => true,
+        [next, ..] => column < next.column,
     }
-    Ok(rows)
+}
+
+fn term_in(columns: usize, value: &Value) -> Option<Term>
+    ensures answer { result ≡ words.term_in columns (view value.now) }
+    ensures term { IfSome result (IsTerm columns) }
+{
+    term_of(columns, list_in(value)?)
+}
+
+#[tactic(auto, unfolding(crate::specs::RowsFile::term_of))]
+fn term_of(columns: usize, pair: &[Value]) -> Option<Term>
+    ensures answer { result ≡ words.term_of columns (map view pair.now) }
+    ensures term { IfSome result (IsTerm columns) }
+{
+    match pair {
+        [first, second] => {
+            let column = column_in(columns, first)?;
+            let entry = entry_in(second)?;
+            Some(Term {
+                column,
+                entry: i128::from(entry),
+            })
+        }
+        _ => None,
+    }
+}
+
+fn column_in(columns: usize, value: &Value) -> Option<usize>
+    ensures { result ≡ words.column_in columns (view value.now) }
+{
+    let column = value.as_u64()? as usize;
+    if column < columns { Some(column) } else { None }
+}
+
+fn entry_in(value: &Value) -> Option<i64>
+    ensures { result ≡ words.entry_in (view value.now) }
+{
+    let entry = value.as_i64()?;
+    if entry == 0 { None } else { Some(entry) }
+}
+
+fn right_at(value: &Value) -> Option<i64>
+    ensures { result ≡ words.right_at (view value.now) }
+{
+    let right = value.get("right")?.as_i64()?;
+    if right < 0 { None } else { Some(right) }
+}
+
+fn list_at<'v>(value: &'v Value, key: &str) -> Option<&'v [Value]>
+    ensures { option_map (λ vs. map view vs.now) result ≡ words.list_at key.now (view value.now) }
+{
+    list_in(value.get(key)?)
 }

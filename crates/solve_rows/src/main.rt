@@ -6,6 +6,7 @@ mod file;
 
 use crate::file::rows_of;
 use anyhow::{Result, anyhow};
+use json_fields::Refusal;
 use serde_json::Value;
 use std::alloc::Global;
 use std::rt::{Clock, Env, Files};
@@ -19,7 +20,11 @@ const PIVOTS: u32 = 100_000;
 fn read_rows<R: Files + AllocGlobal>(rt: &R, path: &str) -> Result<Rows> {
     let text = fs::read_to_string(rt, path)?;
     let data = Value::from_str(rt.alloc(), text.as_str()).map_err(|_| anyhow!("no JSON"))?;
-    rows_of(rt.alloc(), &data)
+    match rows_of(rt.alloc(), &data) {
+        Ok(rows) => Ok(rows),
+        Err(Refusal::Refused) => Err(anyhow!("no rows")),
+        Err(Refusal::Memory) => Err(anyhow!("out of memory")),
+    }
 }
 
 fn report<R: Files + AllocGlobal + Clock + Print>(rt: &R, path: &str) -> Result<()> {
@@ -45,3 +50,6 @@ fn main(rt: HostRuntime) -> Result<()> {
     }
     Ok(())
 }
+
+#[cfg(test)]
+mod tests;
