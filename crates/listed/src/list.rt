@@ -1,4 +1,4 @@
-ghost use Rattle.std.specs.Prelude.{◌≡◌, [], ◌∷◌, ◌++◌, ◌<◌, length, slice_get, Some, OnOk, OnErr};
+ghost use Rattle.std.specs.Prelude.{◌≡◌, [], ◌∷◌, ◌++◌, ◌<◌, length, slice_get, slice_set, Some, OnOk, OnErr};
 
 use crate::Memory;
 use std::alloc::Global;
@@ -58,6 +58,15 @@ impl<T> Listed<T> {
         ensures { slice_get self.now i ≡ Some result.now }
     {
         &self.members[i]
+    }
+
+    /// Puts the member into the place of member `i`, which it gives back.
+    pub fn replace(&mut self, i: usize, member: T) -> T
+        requires { i < length self.old }
+        ensures old { slice_get self.old i ≡ Some result }
+        ensures new { self.new ≡ slice_set self.old i member }
+    {
+        std::mem::replace(&mut self.members[i], member)
     }
 
     /// The members in order.
