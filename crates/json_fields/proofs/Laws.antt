@@ -1,8 +1,8 @@
 -- What the words on a JSON value promise: one value and one answer for the bytes, and numbers in their ranges.
-use Rattle.std.proofs.Common.{Bool, true, false, cond, ◌^◌, ◌≡◌, ℕ, suc, subst, ◌<◌, ◌≤◌, List, [], ◌∷◌, length, Option, Some, None, option_map, Result, refl, sym, ap, ◌∙◌, arith, inl, inr}
-use Rattle.std.specs.Prelude.{codes, bytes_eq, take, drop, nat_le, nat_lt, option_and_then, ◌&&◌}
+use Rattle.std.proofs.Common.{Bool, true, false, cond, ◌^◌, ◌≡◌, ℕ, ◌<◌, ◌≤◌, List, length, Option, Some, None, option_map, Result, Ok, Err, refl, sym, ap, ◌∙◌, arith, inl, inr}
+use Rattle.std.specs.Prelude.{IfOk, ok_or, codes, bytes_eq, take, drop, nat_le, nat_lt, option_and_then, ◌&&◌}
 use Rattle.std.specs.Char.{digit_value}
-use Rattle.std.specs.List.{list_all, AllByRecursion}
+use Rattle.std.specs.List.{list_all}
 use Rattle.std.proofs.lemmas.Bool.{leb-true, ltb-true}
 use Rattle.std.proofs.lemmas.List.{length-drop}
 use Rattle.json_fields.proofs.Addresses.{below}
@@ -10,20 +10,21 @@ use Rattle.std.proofs.lemmas.Option.{option_and_then_some, cond_some}
 use Rattle.std.specs.Str.Parse.{digits_value}
 use Rattle.serde_json.specs.Data.{Data}
 use Rattle.serde_json.specs.Find.{as_number, as_str, as_u64}
-use Rattle.json_fields.specs.Files.{HasValue, Answers}
-use Rattle.json_fields.specs.Forms.{◌>>=◌}
-use Rattle.json_fields.specs.Lists.{list_in, list_up_to, all_of}
+use Rattle.json_fields.specs.Files.{HasValue, IsGiven, Answers}
+use Rattle.listed.specs.declared.fault.Fault.{Fault}
+use Rattle.listed.specs.Steps.Options.{◌>>=◌}
+use Rattle.json_fields.specs.Lists.{list_in, list_up_to}
 use Rattle.json_fields.specs.Numbers.{within, whole_in, is_digits, digits_below, digits_in, is_address, address_of, address_in}
 use Rattle.json_fields.proofs.Numerals.{both}
 
 pub one_value : (bytes : List ℕ) (d e : Data) → HasValue bytes d → HasValue bytes e → d ≡ e
 one_value bytes d e has also = cc (has.1, also.1)
 
-pub one_answer : {X K : Type 0} (no_value : K) (format : Data → Result X K) (bytes : List ℕ) (r s : Result X K) → Answers no_value format bytes r → Answers no_value format bytes s → r ≡ s
-one_answer no_value format bytes r s (inl a) (inl b) = a.2 ∙ ap format (one_value bytes a.0 b.0 a.1 b.1) ∙ sym b.2
-one_answer no_value format bytes r s (inl a) (inr b) = absurd (b.0 a.0 a.1)
-one_answer no_value format bytes r s (inr a) (inl b) = absurd (a.0 b.0 b.1)
-one_answer no_value format bytes r s (inr a) (inr b) = a.1 ∙ sym b.1
+pub one_given : {X K : Type 0} (no_value : K) (format : Data → Result X K) (bytes : List ℕ) (r s : Result X K) → IsGiven no_value format bytes r → IsGiven no_value format bytes s → r ≡ s
+one_given no_value format bytes r s (inl a) (inl b) = sym a.2 ∙ ap format (one_value bytes a.0 b.0 a.1 b.1) ∙ b.2
+one_given no_value format bytes r s (inl a) (inr b) = absurd (b.0 a.0 a.1)
+one_given no_value format bytes r s (inr a) (inl b) = absurd (a.0 b.0 b.1)
+one_given no_value format bytes r s (inr a) (inr b) = a.1 ∙ sym b.1
 
 within-range : (low high m n : ℕ) → within low high m ≡ Some n → (low ≤ n) × (n ≤ high)
 within-range low high m n is =
@@ -43,29 +44,10 @@ digits_below-lt limit text n is =
 pub digits_in-lt : (limit : ℕ) (d : Data) (n : ℕ) → digits_in limit d ≡ Some n → n < limit
 digits_in-lt limit d n is = option_and_then_some (digits_below limit) (as_str d) n is (λ text _ at. digits_below-lt limit text n at)
 
-one_longer : {B : Type 0} (y : B) (o : Option (List B)) (ys : List B) (n : ℕ) → option_map (λ more. y ∷ more) o ≡ Some ys → ((zs : List B) → o ≡ Some zs → length zs ≡ n) → length ys ≡ suc n
-one_longer y None ys n is shorter = absurd cc
-one_longer y (Some zs) ys n is shorter = let same : y ∷ zs ≡ ys = cc in ap length (sym same) ∙ ap suc (shorter zs refl)
-
--- as many as there were
-pub length-all_of : {A B : Type 0} (reads : A → Option B) (xs : List A) (ys : List B) → all_of reads xs ≡ Some ys → length ys ≡ length xs
-length-all_of reads [] [] is = refl
-length-all_of reads [] (y ∷ ys) is = absurd cc
-length-all_of reads (x ∷ xs) ys is =
-    option_and_then_some (λ y. option_map (λ more. y ∷ more) (all_of reads xs)) (reads x) ys is (λ y _ at. one_longer y (all_of reads xs) ys (length xs) at (λ zs found. length-all_of reads xs zs found))
-
 -- what came before a step that gave something
 pub bind_some : {A B : Type 0} (o : Option A) (next : A → Option B) (y : B) → (o >>= next) ≡ Some y → (x : A) × (o ≡ Some x) × (next x ≡ Some y)
 bind_some None next y is = absurd cc
 bind_some (Some x) next y is = (x, refl, is)
-
-pub and_then_some : {A B : Type 0} (o : Option A) (next : A → Option B) (y : B) → option_and_then next o ≡ Some y → (x : A) × (o ≡ Some x) × (next x ≡ Some y)
-and_then_some None next y is = absurd cc
-and_then_some (Some x) next y is = (x, refl, is)
-
-pub map_some : {A B : Type 0} (o : Option A) (f : A → B) (y : B) → option_map f o ≡ Some y → (x : A) × (o ≡ Some x) × (f x ≡ y)
-map_some None f y is = absurd cc
-map_some (Some x) f y is = (x, refl, cc)
 
 pub passed : {A : Type 0} (test : Bool) (o : Option A) (y : A) → cond test o None ≡ Some y → (test ≡ true) × (o ≡ Some y)
 passed true o y is = (refl, is)
@@ -77,13 +59,6 @@ not_refused false o y is = (refl, is)
 
 pub same_some : {A : Type 0} (x y : A) → Some x ≡ Some y → x ≡ y
 same_some x y is = cc
-
-pub all_of-all : {B : Type 0} (reads : Data → Option B) (P : B → Type 0) → ((d : Data) (y : B) → reads d ≡ Some y → P y) → (ds : List Data) (ys : List B) → all_of reads ds ≡ Some ys → AllByRecursion P ys
-all_of-all reads P each [] ys is = subst (AllByRecursion P) (same_some [] ys is) tt
-all_of-all reads P each (d ∷ ds) ys is =
-    let first = and_then_some (reads d) (λ y. option_map (λ more. y ∷ more) (all_of reads ds)) ys is in
-    let others = map_some (all_of reads ds) (λ more. first.0 ∷ more) ys first.2 in
-    subst (AllByRecursion P) others.2 (each d first.0 first.1, all_of-all reads P each ds others.0 others.1)
 
 address_of-lt : (text : List ℕ) (n : ℕ) → address_of text ≡ Some n → n < 2 ^ 32
 address_of-lt text n is =
@@ -107,3 +82,20 @@ short most found ds at =
 pub list_up_to-length : (most : ℕ) (d : Data) (ds : List Data) → list_up_to most d ≡ Some ds → length ds ≤ most
 list_up_to-length most d ds is =
     option_and_then_some (λ found. cond (nat_le (length found) most) (Some found) None) (list_in d) ds is (λ found _ at. short most found ds at)
+
+-- what holds of each record of the format holds of the answer
+pub IfOk-from_Answers : {X K : Type 0} (P : X → Type 0) (no_value : K) (format : Data → Result X K) (bytes : List ℕ) (r : Result X (Fault K))
+    → Answers no_value format bytes r → ((d : Data) → IfOk (format d) P) → IfOk r P
+IfOk-from_Answers P no_value format bytes (Ok x) (inl given) each = rw given.2 at (each given.0)
+IfOk-from_Answers P no_value format bytes (Ok x) (inr none) each = absurd (cc)
+IfOk-from_Answers P no_value format bytes (Err e) answers each = tt
+
+-- what is there, or a fault where nothing is
+pub IfOk-ok_or : {A K : Type 0} (P : A → Type 0) (o : Option A) (kind : K) → ((x : A) → o ≡ Some x → P x) → IfOk (ok_or o kind) P
+IfOk-ok_or P None kind each = tt
+IfOk-ok_or P (Some x) kind each = each x refl
+
+-- the same where a test refuses
+pub IfOk-test : {A K : Type 0} (P : A → Type 0) (test : Bool) (x : A) (kind : K) → (test ≡ true → P x) → IfOk (cond test (Ok x) (Err kind)) P
+IfOk-test P true x kind passes = passes refl
+IfOk-test P false x kind passes = tt

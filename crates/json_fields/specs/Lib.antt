@@ -3,4 +3,3 @@ pub mod Objects
 pub mod Numbers
 pub mod Lists
 pub mod Files
-pub mod Refusals

@@ -1,6 +1,5 @@
 -- JSON lists as plain lists.
-use Rattle.std.specs.Prelude.{ℕ, suc, Bool, true, not, ◌&&◌, List, [], ◌∷◌, length, if◌then◌else◌, ◌==◌, Option, Some, None, nat_le, option_and_then, option_map, ◌≡◌, refl}
-use Rattle.std.specs.List.{list_any}
+use Rattle.std.specs.Prelude.{ℕ, List, [], ◌∷◌, length, if◌then◌else◌, ◌==◌, Option, Some, None, nat_le, option_and_then, option_map, ◌≡◌, refl}
 use Rattle.serde_json.specs.Data.{Data, null, array, Items, no_items, item}
 use Rattle.serde_json.specs.Find.{as_array}
 
@@ -19,21 +18,6 @@ list_up_to n d = option_and_then (λ ds. if nat_le (length ds) n then Some ds el
 -- the same, of a list of exactly n
 abbrev pub list_of : ℕ → Data → Option (List Data)
 list_of n d = option_and_then (λ ds. if length ds == n then Some ds else None) (list_in d)
-
--- What each member is, where each is something.
-abbrev pub all_of : {A B : Type 0} → (A → Option B) → List A → Option (List B)
-all_of reads [] = Some []
-all_of reads (x ∷ xs) = option_and_then (λ y. option_map (λ ys. y ∷ ys) (all_of reads xs)) (reads x)
-
--- the same, where a member's place counts
-abbrev pub each_from : {A B : Type 0} → (ℕ → A → Option B) → ℕ → List A → Option (List B)
-each_from reads place [] = Some []
-each_from reads place (x ∷ xs) = option_and_then (λ y. option_map (λ ys. y ∷ ys) (each_from reads (suc place) xs)) (reads place x)
-
--- no member is the same as another
-abbrev pub differ : {A : Type 0} → (A → A → Bool) → List A → Bool
-differ same [] = true
-differ same (x ∷ xs) = not (list_any (same x) xs) && differ same xs
 
 two_of_two : list_of 2 (array (item null (item null no_items))) ≡ Some (null ∷ null ∷ [])
 two_of_two = refl

@@ -1,5 +1,8 @@
 use super::*;
+use crate::files::read_value;
+use listed::Fault;
 use serde_json::Value;
+use std::alloc::Global;
 use std::test::*;
 
 const TEXT: &[u8] =
@@ -7,7 +10,7 @@ const TEXT: &[u8] =
 
 #[test]
 fn fields_of_one_object(rt: HostRuntime) -> Result<(), Fail> {
-    let value = read_value(rt.alloc(), TEXT).ok().ok_or("a value")?;
+    let value = read_value(rt.alloc(), 'J', TEXT).ok().ok_or("a value")?;
     assert!(rt; has_exactly(&value, &["digits", "from", "one", "at"]));
     assert!(rt; has_keys(&value, &["at", "one"], &["to", "from", "digits"]));
     assert!(rt; !has_keys(&value, &["at", "to"], &["one", "from", "digits"]));
@@ -30,12 +33,57 @@ fn fields_of_one_object(rt: HostRuntime) -> Result<(), Fail> {
 
 #[test]
 fn bytes_without_a_value(rt: HostRuntime) -> Result<(), Fail> {
+    let cut = read_value(rt.alloc(), 'J', b"{\"a\":1,}");
+    assert!(rt; matches!(cut, Err(Fault::Kind('J'))));
+    let no_text = read_value(rt.alloc(), 'J', b"\"\xff\"");
+    assert!(rt; matches!(no_text, Err(Fault::Kind('J'))));
+    Ok(())
+}
+
+// Whole numbers, each no greater than its place.
+struct UpToPlace;
+
+impl Format for UpToPlace {
+    type Item = u64;
+
+    type Kind = char;
+
+    ghost use Rattle.std.specs.Prelude.{ok_or};
+    ghost use Rattle.json_fields.specs.Numbers.{whole_in};
+
+    ghost gives = { λ _ place d. ok_or (whole_in 0 place d) 82 };
+
+    fn read(&self, _alloc: Global, place: usize, value: &Value) -> Result<u64, Fault<char>> {
+        whole_in(value, 0, place as u64).ok_or(Fault::Kind('R'))
+    }
+}
+
+#[test]
+fn members_by_their_places(rt: HostRuntime) -> Result<(), Fail> {
+    let value = read_value(rt.alloc(), 'J', b"[0,1,1]")
+        .ok()
+        .ok_or("a value")?;
+    let members = list_in(&value).ok_or("members")?;
+    let read = each(rt.alloc(), &UpToPlace, members).ok().ok_or("numbers")?;
+    assert_eq!(rt; read.as_slice(), [0, 1, 1].as_slice());
     assert!(rt;
         matches!(
-            read_value(rt.alloc(), b"{\"a\":1,}"),
-            Err(ReadError::NoValue)
+            each(rt.alloc(), &UpToPlace, &members[1..]),
+            Err(Fault::Kind('R'))
         )
     );
-    assert!(rt; matches!(read_value(rt.alloc(), b"\"\xff\""), Err(ReadError::NoValue)));
+    assert!(rt; matches!(read_file(rt.alloc(), &UpToPlace, 'J', b"0"), Ok(0)));
+    assert!(rt;
+        matches!(
+            read_file(rt.alloc(), &UpToPlace, 'J', b"1"),
+            Err(Fault::Kind('R'))
+        )
+    );
+    assert!(rt;
+        matches!(
+            read_file(rt.alloc(), &UpToPlace, 'J', b"0,"),
+            Err(Fault::Kind('J'))
+        )
+    );
     Ok(())
 }
