@@ -1,10 +1,18 @@
--- What a read of a file gives, and what it leaves in the object that reads.
+-- What files tell of the outside, what a read of a file gives, and what it leaves in the object that reads.
 use Rattle.std.specs.Prelude.{◌≡◌, ℕ, ◌+◌, ◌<◌, ◌≤◌, Bool, true, false, List, [], ◌∷◌, length, Option, Some, Result, Ok, Err, ⊤, refl}
 use Rattle.std.proofs.Common.{subst, lit<, lit≤}
 use Rattle.std.proofs.lemmas.Option.{same_Some}
-use Rattle.wcet_io.specs.Causes.{RoseBy}
+use Rattle.wcet_io.specs.Causes.{RoseBy, HasCause, CountsOn}
 use Rattle.wcet_io.specs.declared.fault.FileFault.{FileFault}
 use Rattle.wcet_io.specs.declared.fault.FileFault.TheVariants.{Failed, Long, Memory}
+
+-- What the object that reads files tells of the outside: the bytes that each name holds, where it tells them; how many
+-- reads failed, and the name of the last of these; and how many bytes were taken from files.
+pub record FilesOutside : Type 0 where
+  pub told : List ℕ → Option (List ℕ)
+  pub faults : ℕ
+  pub failed : Option (List ℕ)
+  pub taken : ℕ
 
 -- The object tells that a name holds these bytes.
 abbrev pub Told : Option (List ℕ) → List ℕ → Type 0
@@ -48,6 +56,20 @@ CountsTaken (Ok bytes) before after = RoseBy (length bytes) before after
 CountsTaken (Err (Long taken)) before after = RoseBy taken before after
 CountsTaken (Err Failed) before after = ⊤
 CountsTaken (Err Memory) before after = ⊤
+
+-- What the names hold doesn't change, and the counts don't fall.
+pub record FilesGoOn (before after : FilesOutside) : Type 0 where
+  pub kept : after.told ≡ before.told
+  pub faults_go_on : CountsOn before.faults after.faults
+  pub taken_goes_on : CountsOn before.taken after.taken
+
+-- One read of a name with a limit gave this answer, and led from one outside to the other.
+pub record IsRead (before : FilesOutside) (name : List ℕ) (limit : ℕ) (answer : Result (List ℕ) FileFault) (after : FilesOutside) : Type 0 where
+  pub content : SaysFile (before.told name) limit answer
+  pub cause : HasCause (is_failed answer) before.faults after.faults
+  pub last : after.failed ≡ last_failed answer name before.failed
+  pub count : CountsTaken answer before.taken after.taken
+  pub goes_on : FilesGoOn before after
 
 -- Worked cases, with a file of the bytes 7, 8: a limit of 2 gives them, and a limit of 1 takes 2 bytes of a longer file.
 at_the_limit : SaysFile (Some (7 ∷ 8 ∷ [])) 2 (Ok (7 ∷ 8 ∷ []))

@@ -5,7 +5,7 @@ use Rattle.wcet_io.specs.declared.fault.FileFault.{FileFault}
 use Rattle.wcet_io.specs.declared.fault.FileFault.TheVariants.{Failed}
 use Rattle.wcet_io.specs.declared.named_files.NamedFile.{NamedFile}
 use Rattle.wcet_io.specs.Causes.{greatest_count}
-use Rattle.wcet_io.specs.Files.{is_failed, last_failed}
+use Rattle.wcet_io.specs.Files.{FilesOutside, is_failed, last_failed}
 use Rattle.wcet_io.specs.NamedFiles.{content_of, limited, taken_after}
 
 -- What such an object is: its files, the numbers of the reads that are to fail, the number of the next read,
@@ -17,6 +17,10 @@ pub record FilesInMemory : Type 0 where
   pub faults : ℕ
   pub failed : Option (List ℕ)
   pub taken : ℕ
+
+-- what it tells of the outside
+abbrev pub outside_of : FilesInMemory → FilesOutside
+outside_of object = record { told = content_of object.files; faults = object.faults; failed = object.failed; taken = object.taken }
 
 -- the answer to a read of what a name holds
 abbrev pub found : Option (List ℕ) → ℕ → Result (List ℕ) FileFault

@@ -1,10 +1,10 @@
 -- A sink in memory whose writes can be made to fail.
-use Rattle.std.specs.Prelude.{◌≡◌, ℕ, ◌+◌, Bool, true, false, List, ◌++◌, Result, Ok, Err, min, ◌==◌, if◌then◌else◌}
+use Rattle.std.specs.Prelude.{◌≡◌, ℕ, ◌+◌, Bool, true, false, List, ◌++◌, Some, Result, Ok, Err, min, ◌==◌, if◌then◌else◌}
 use Rattle.std.specs.List.{list_any}
 use Rattle.wcet_io.specs.declared.fault.SinkFault.{SinkFault}
 use Rattle.wcet_io.specs.declared.fault.SinkFault.TheVariants.{Failed, Memory}
 use Rattle.wcet_io.specs.Causes.{greatest_count}
-use Rattle.wcet_io.specs.Sink.{is_failed}
+use Rattle.wcet_io.specs.Sink.{SinkOutside, is_failed}
 
 -- What such a sink is: its bytes, the numbers of the writes that are to fail, the number of the next write,
 -- and how many writes failed.
@@ -13,6 +13,10 @@ pub record SinkInMemory : Type 0 where
   pub failing : List ℕ
   pub calls : ℕ
   pub faults : ℕ
+
+-- what it tells of the outside
+abbrev pub outside_of : SinkInMemory → SinkOutside
+outside_of sink = record { written = Some sink.written; faults = sink.faults }
 
 -- the next write is to fail
 abbrev pub fails_next : SinkInMemory → Bool

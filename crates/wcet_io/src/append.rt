@@ -1,3 +1,4 @@
+//! Appending to bytes in memory.
 ghost use Rattle.std.specs.Prelude.{◌≡◌, ◌++◌, OnOk, OnErr};
 
 use crate::Memory;

@@ -1,3 +1,4 @@
+//! What an object that reads files keeps of the reads that failed.
 ghost use Rattle.std.specs.Prelude.{◌≡◌, ◌+◌, min, None, Some};
 ghost use Rattle.wcet_io.specs.Causes.{CountsOn, greatest_count};
 

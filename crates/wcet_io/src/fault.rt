@@ -1,3 +1,4 @@
+//! Why a file was not read, and why a piece was not written.
 ghost use Rattle.std.specs.Prelude.{◌≡◌};
 
 use listed::Memory;

@@ -1,35 +1,26 @@
-ghost use Rattle.std.specs.Prelude.{◌≡◌, ℕ, ◌<◌, ◌^◌, List, Option};
-ghost use Rattle.wcet_io.specs.Causes.{HasCause, CountsOn};
-ghost use Rattle.wcet_io.specs.Files.{SaysFile, is_failed, last_failed, CountsTaken};
+//! The trait of what files are read from.
+ghost use Rattle.std.specs.Prelude.{ℕ, ◌<◌, ◌^◌, List, Result};
+ghost use Rattle.wcet_io.specs.declared.fault.FileFault.{FileFault};
+ghost use Rattle.wcet_io.specs.Files.{FilesOutside, IsRead};
 
 use crate::{Bytes, FileFault, Text};
 use std::alloc::Global;
 
 /// What files are read from.
 pub trait Files {
-    /// The bytes that a name holds, where the object tells them.
-    ghost told: { Self → List ℕ → Option (List ℕ) };
+    /// What the object tells of the outside. The counts stop at `u64::MAX`.
+    ghost outside: { Self → FilesOutside };
 
-    /// How many reads failed. The count stops at `u64::MAX`.
-    ghost faults: { Self → ℕ };
-
-    /// The name of the last read that failed, if one did.
-    ghost failed: { Self → Option (List ℕ) };
-
-    /// How many bytes were taken from files. The count stops at `u64::MAX`.
-    ghost taken: { Self → ℕ };
+    /// One call of `read`: the object before it, the name, the limit, the answer, the object after it.
+    /// In code over any `Files` nothing but a call shows it. So what such code says of its calls it
+    /// says of the bytes that they gave, also where an object tells nothing.
+    ghost reads: { Self → List ℕ → ℕ → Result (List ℕ) FileFault → Self → Type 0 };
 
     /// Reads a whole file that has at most `limit` bytes.
     /// Of a longer one `limit + 1` bytes are taken.
     /// An `Err` other than `Long` may have taken any number of bytes.
     fn read(&mut self, alloc: Global, name: &Text, limit: usize) -> Result<Bytes, FileFault>
         requires { limit < 2 ^ 32 }
-        ensures content { SaysFile (told self.old name.now) limit result }
-        // What the names hold doesn't change.
-        ensures kept { told self.new ≡ told self.old }
-        ensures cause { HasCause (is_failed result) (faults self.old) (faults self.new) }
-        ensures name { failed self.new ≡ last_failed result name.now (failed self.old) }
-        ensures count { CountsTaken result (taken self.old) (taken self.new) }
-        ensures faults_go_on { CountsOn (faults self.old) (faults self.new) }
-        ensures taken_goes_on { CountsOn (taken self.old) (taken self.new) };
+        ensures called { reads self.old name.now limit result self.new }
+        ensures tells { IsRead (outside self.old) name.now limit result (outside self.new) };
 }

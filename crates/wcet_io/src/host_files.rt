@@ -1,6 +1,8 @@
+//! The real files.
 ghost use Rattle.std.specs.Prelude.{◌≡◌, ◌<◌, ◌≤◌, length, None, IfOk};
 ghost use Rattle.std.specs.Io.KnownBytes.{Consumes, IsAtEnd};
 ghost use Rattle.wcet_io.specs.Causes.{CountsOn, RoseBy};
+ghost use Rattle.wcet_io.specs.HostCounts.{outside_of};
 
 use crate::failed_reads::FailedReads;
 use crate::{Bytes, FileFault, Files, Text};
@@ -48,13 +50,9 @@ impl<R: std::rt::Files + Drop> HostFiles<R> {
 }
 
 impl<R: std::rt::Files + Drop> Files for HostFiles<R> {
-    ghost told = { λ _ _. None };
+    ghost outside = { outside_of };
 
-    ghost faults = { λ object. object.faults };
-
-    ghost failed = { λ object. object.failed };
-
-    ghost taken = { λ object. object.taken };
+    ghost reads = { λ _ _ _ _ _. Unit {0} };
 
     fn read(&mut self, alloc: Global, name: &Text, limit: usize) -> Result<Bytes, FileFault> {
         let kept = Text::from_str(alloc, name.as_str())?;

@@ -1,7 +1,6 @@
+//! A sink over a real writer.
 ghost use Rattle.std.specs.Prelude.{◌≡◌, None, OnOk};
 ghost use Rattle.std.specs.Io.KnownBytes.{Appends};
-ghost use Rattle.wcet_io.specs.Causes.{HasCause, CountsOn};
-ghost use Rattle.wcet_io.specs.Sink.{Writes, is_failed};
 
 use crate::{Sink, SinkFault};
 use std::io::{ErrorKind, Write};
@@ -25,17 +24,13 @@ impl<W: Write + Drop> HostSink<W> {
 }
 
 impl<W: Write + Drop> Sink for HostSink<W> {
-    ghost written = { λ _. None };
+    ghost outside = { λ sink. record { written = None; faults = sink.faults } };
 
-    ghost faults = { λ sink. sink.faults };
+    // What the writer tells of its bytes grows by the piece.
+    ghost writes = { λ before piece answer after.
+        OnOk answer (Appends (W.contents before.out) (W.contents after.out) piece) };
 
-    fn write(&mut self, piece: &[u8]) -> Result<(), SinkFault>
-        ensures appends { Writes result None piece.now None }
-        ensures cause { HasCause (is_failed result) self.old.faults self.new.faults }
-        ensures faults_go_on { CountsOn self.old.faults self.new.faults }
-        // What the writer tells of its bytes grows by the piece.
-        ensures whole { OnOk result (Appends (W.contents self.old.out) (W.contents self.new.out) piece.now) }
-    {
+    fn write(&mut self, piece: &[u8]) -> Result<(), SinkFault> {
         let answer = write_whole(&mut self.out, piece);
         if answer == Err(SinkFault::Failed) {
             self.faults = self.faults.saturating_add(1);

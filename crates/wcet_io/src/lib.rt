@@ -1,6 +1,11 @@
 //! Files to read, a sink to write to, and the words of a command.
 //! The contracts of the two traits say which bytes came and went, and when the outside failed.
 //! Objects in memory tell what they hold; the real ones tell nothing.
+//!
+//!     let name = Text::from_str(alloc, "engine.oil")?;
+//!     let mut files = MemFiles::new(alloc);
+//!     files.put(Text::from_str(alloc, "engine.oil")?, Bytes::from_slice(alloc, b"CPU")?)?;
+//!     let bytes = files.read(alloc, &name, 4096)?;    // the three bytes
 #![tactic(auto)]
 
 mod append;

@@ -1,7 +1,8 @@
+//! Files in memory whose reads can be made to fail.
 ghost use Rattle.std.specs.Prelude.{◌≡◌, ◌<◌, ◌^◌, ◌∷◌, [], ◌++◌, Some, None, OnOk, OnErr};
 ghost use Rattle.wcet_io.specs.Causes.{CountsOn};
-ghost use Rattle.wcet_io.specs.NamedFiles.{content_of, with_file, GivesOrMemory};
-ghost use Rattle.wcet_io.specs.MemFiles.{read_answer, after_read};
+ghost use Rattle.wcet_io.specs.NamedFiles.{with_file, GivesOrMemory};
+ghost use Rattle.wcet_io.specs.MemFiles.{outside_of, read_answer, after_read};
 
 use crate::failed_reads::FailedReads;
 use crate::named_files::{NamedFile, copy, find, put};
@@ -73,13 +74,9 @@ impl MemFiles {
 }
 
 impl Files for MemFiles {
-    ghost told = { λ object name. content_of object.files name };
+    ghost outside = { outside_of };
 
-    ghost faults = { λ object. object.faults };
-
-    ghost failed = { λ object. object.failed };
-
-    ghost taken = { λ object. object.taken };
+    ghost reads = { λ _ _ _ _ _. Unit {0} };
 
     fn read(&mut self, alloc: Global, name: &Text, limit: usize) -> Result<Bytes, FileFault>
         requires { limit < 2 ^ 32 }

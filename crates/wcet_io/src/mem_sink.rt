@@ -1,6 +1,7 @@
-ghost use Rattle.std.specs.Prelude.{◌≡◌, ◌∷◌, [], ◌++◌, OnOk, OnErr, Some};
+//! A sink in memory whose writes can be made to fail.
+ghost use Rattle.std.specs.Prelude.{◌≡◌, ◌∷◌, [], ◌++◌, OnOk, OnErr};
 ghost use Rattle.wcet_io.specs.Causes.{CountsOn};
-ghost use Rattle.wcet_io.specs.MemSink.{fails_next, after_write, FailsWhereListed};
+ghost use Rattle.wcet_io.specs.MemSink.{outside_of, fails_next, after_write, FailsWhereListed};
 
 use crate::append::append;
 use crate::{Memory, Sink, SinkFault};
@@ -19,7 +20,7 @@ pub struct MemSink {
 }
 
 impl Model for MemSink {
-    ghost use Rattle.wcet_io.specs.MemSink.{SinkInMemory};
+    ghost use Rattle.wcet_io.specs.MemSink.{outside_of, SinkInMemory};
 
     ghost Value = { SinkInMemory };
 
@@ -62,9 +63,9 @@ impl MemSink {
 }
 
 impl Sink for MemSink {
-    ghost written = { λ sink. Some sink.written };
+    ghost outside = { outside_of };
 
-    ghost faults = { λ sink. sink.faults };
+    ghost writes = { λ _ _ _ _. Unit {0} };
 
     fn write(&mut self, piece: &[u8]) -> Result<(), SinkFault>
         ensures fails { FailsWhereListed (fails_next self.old) result }

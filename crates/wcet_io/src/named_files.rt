@@ -1,3 +1,4 @@
+//! Files that stand in memory under their names.
 ghost use Rattle.std.specs.Prelude.{◌≡◌, ◌<◌, ◌^◌, None, option_map, IfNone, IfSome, OnOk, OnErr};
 ghost use Rattle.wcet_io.specs.Causes.{CountsOn};
 ghost use Rattle.wcet_io.specs.NamedFiles.{content_of, with_file, IsPlaceOf, limited, taken_after, GivesOrMemory};

@@ -1,7 +1,8 @@
-ghost use Rattle.std.specs.Prelude.{◌≡◌, ◌<◌, ◌^◌, [], Some, None, OnOk, OnErr};
+//! Files in memory whose reads never fail.
+ghost use Rattle.std.specs.Prelude.{◌≡◌, ◌<◌, ◌^◌, [], OnOk, OnErr};
 ghost use Rattle.wcet_io.specs.Causes.{CountsOn};
 ghost use Rattle.wcet_io.specs.NamedFiles.{with_file, limited, taken_after, GivesOrMemory};
-ghost use Rattle.wcet_io.specs.SureFiles.{content_or_empty};
+ghost use Rattle.wcet_io.specs.SureFiles.{outside_of, content_or_empty};
 
 use crate::named_files::{NamedFile, copy, find, put};
 use crate::{Bytes, FileFault, Files, Memory, Text};
@@ -47,13 +48,9 @@ impl SureFiles {
 }
 
 impl Files for SureFiles {
-    ghost told = { λ object name. Some (content_or_empty object.files name) };
+    ghost outside = { outside_of };
 
-    ghost faults = { λ _. 0 };
-
-    ghost failed = { λ _. None };
-
-    ghost taken = { λ object. object.taken };
+    ghost reads = { λ _ _ _ _ _. Unit {0} };
 
     fn read(&mut self, alloc: Global, name: &Text, limit: usize) -> Result<Bytes, FileFault>
         requires { limit < 2 ^ 32 }

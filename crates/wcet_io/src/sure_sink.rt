@@ -1,3 +1,4 @@
+//! A sink in memory whose writes never fail.
 ghost use Rattle.std.specs.Prelude.{◌≡◌, [], ◌++◌, Some, OnOk, OnErr, IsOkUnless};
 
 use crate::append::append;
@@ -38,9 +39,9 @@ impl SureSink {
 }
 
 impl Sink for SureSink {
-    ghost written = { λ sink. Some sink };
+    ghost outside = { λ sink. record { written = Some sink; faults = 0 } };
 
-    ghost faults = { λ _. 0 };
+    ghost writes = { λ _ _ _ _. Unit {0} };
 
     fn write(&mut self, piece: &[u8]) -> Result<(), SinkFault>
         ensures ok { OnOk result (self.new ≡ self.old ++ piece.now) }

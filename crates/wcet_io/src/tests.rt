@@ -1,8 +1,3 @@
-ghost use Rattle.std.specs.Prelude.{◌≡◌, ℕ, List, ◌++◌, length, ◌<◌, IfOk, IsErrOf};
-ghost use Rattle.wcet_io.specs.Causes.{Rose, RoseBy};
-ghost use Rattle.wcet_io.specs.Files.{Told};
-ghost use Rattle.wcet_io.specs.Sink.{appended};
-
 use crate::host_files::read_bytes;
 use crate::{
     Bytes, FileFault, Files, HostFiles, HostSink, MemFiles, MemSink, Memory, Sink, SinkFault,
@@ -23,21 +18,14 @@ enum Stop {
     Memory,
 }
 
-/// A caller that knows no more than the traits: reads two files and writes them one after the other.
+/// Reads two files and writes them one after the other.
 fn join<F: Files, O: Sink>(
     alloc: Global,
     first: &Text,
     second: &Text,
     files: &mut F,
     out: &mut O,
-) -> Result<(), Stop>
-    ensures kept { F.told files.new ≡ F.told files.old }
-    ensures ok { IfOk result (λ _. (a b : List ℕ)
-        → Told (F.told files.old first.now) a → Told (F.told files.old second.now) b
-        → O.written out.new ≡ appended (O.written out.old) (a ++ b)) }
-    ensures read_fault { IsErrOf result Stop.Read → Rose (F.faults files.old) (F.faults files.new) }
-    ensures write_fault { IsErrOf result Stop.Write → Rose (O.faults out.old) (O.faults out.new) }
-{
+) -> Result<(), Stop> {
     let mut bytes = read(alloc, first, files)?.into_vec();
     let more = read(alloc, second, files)?;
     if bytes.extend_from_slice(more.as_slice()).is_err() {
@@ -50,35 +38,12 @@ fn join<F: Files, O: Sink>(
     }
 }
 
-fn read<F: Files>(alloc: Global, name: &Text, files: &mut F) -> Result<Bytes, Stop>
-    ensures kept { F.told files.new ≡ F.told files.old }
-    ensures ok { IfOk result (λ bytes. (content : List ℕ)
-        → Told (F.told files.old name.now) content → bytes ≡ content) }
-    ensures read_fault { IsErrOf result Stop.Read → Rose (F.faults files.old) (F.faults files.new) }
-    ensures other { (IsErrOf result Stop.Read → ⊥) → F.faults files.new ≡ F.faults files.old }
-    ensures no_write { IsErrOf result Stop.Write → ⊥ }
-    ensures long { IsErrOf result (Stop.Long 5) → RoseBy 5 (F.taken files.old) (F.taken files.new)
-        × ((content : List ℕ) → Told (F.told files.old name.now) content → 4 < length content) }
-{
+fn read<F: Files>(alloc: Global, name: &Text, files: &mut F) -> Result<Bytes, Stop> {
     files.read(alloc, name, LIMIT).map_err(|fault| match fault {
         FileFault::Failed => Stop::Read,
         FileFault::Long { taken } => Stop::Long(taken),
         FileFault::Memory => Stop::Memory,
     })
-}
-
-/// Over objects that never fail there is no fault.
-fn join_surely(
-    alloc: Global,
-    first: &Text,
-    second: &Text,
-    files: &mut SureFiles,
-    out: &mut SureSink,
-) -> Result<(), Stop>
-    ensures no_read_fault { IsErrOf result Stop.Read → ⊥ }
-    ensures no_write_fault { IsErrOf result Stop.Write → ⊥ }
-{
-    join(alloc, first, second, files, out)
 }
 
 fn text(alloc: Global, text: &str) -> Result<Text, Memory> {
@@ -165,10 +130,7 @@ fn sure_objects_never_fail(rt: HostRuntime) -> Result<(), Fail> {
     let (held, missing) = (text(alloc, "held")?, text(alloc, "missing")?);
     let (mut files, mut out) = (SureFiles::new(alloc), SureSink::new(alloc));
     files.put(text(alloc, "held")?, bytes(alloc, &[4, 5])?)?;
-    assert_eq!(rt;
-        join_surely(alloc, &held, &missing, &mut files, &mut out),
-        Ok(())
-    );
+    assert_eq!(rt; join(alloc, &held, &missing, &mut files, &mut out), Ok(()));
     assert_eq!(rt; out.written(), [4, 5].as_slice());
     Ok(())
 }

@@ -1,3 +1,4 @@
+//! Texts: words of the command line and names of files.
 ghost use Rattle.std.specs.Prelude.{◌≡◌, ◌<◌, length, slice_get, Some, IfOk, IsUtf8};
 
 use listed::Memory;
