@@ -12,11 +12,11 @@ use Rattle.whole_rows.specs.declared.RowTerm.{RowTerm}
 
 -- ---- one term more
 
-terms_sum_push : (terms : List RowTerm) (term : RowTerm) (multipliers : List ℕ) → terms_sum (terms ++ term ∷ []) multipliers ≡ terms_sum terms multipliers +ℤ term.entry *ℤ pos (get_or multipliers term.row 0)
+terms_sum_push : (terms : List RowTerm) (term : RowTerm) (multipliers : List ℕ) → terms_sum (terms ++ term ∷ []) multipliers ≡ terms_sum terms multipliers +ℤ term.entry *ℤ pos (get_or multipliers (term.row) 0)
 terms_sum_push [] term multipliers = omega (arith, ints)
 terms_sum_push (first ∷ terms) term multipliers = omega (arith, ints, terms_sum_push terms term multipliers)
 
-pub terms_sum_more : (terms : List RowTerm) (i : ℕ) (d : RowTerm) (multipliers : List ℕ) → i < length terms → terms_sum (take (i + 1) terms) multipliers ≡ terms_sum (take i terms) multipliers +ℤ (get_or terms i d).entry *ℤ pos (get_or multipliers (get_or terms i d).row 0)
+pub terms_sum_more : (terms : List RowTerm) (i : ℕ) (d : RowTerm) (multipliers : List ℕ) → i < length terms → terms_sum (take (i + 1) terms) multipliers ≡ terms_sum (take i terms) multipliers +ℤ (get_or terms i d).entry *ℤ pos (get_or multipliers ((get_or terms i d).row) 0)
 terms_sum_more terms i d multipliers h = rw (take_more terms i d h) (terms_sum_push (take i terms) (get_or terms i d) multipliers)
 
 pub product_sum_more : (xs : List ℤ) (ns : List ℕ) (i : ℕ) → i < length xs → product_sum (take (i + 1) xs) ns ≡ product_sum (take i xs) ns +ℤ get_or xs i (pos 0) *ℤ pos (get_or ns i 0)
@@ -66,16 +66,16 @@ abbrev pub AreSides : List RowTerm → List ℕ → ℕ → ℕ → ℕ → Type
 AreSides terms multipliers i more less =
     (terms_sum (take i terms) multipliers ≡ pos more -ℤ pos less) × (more + less ≤ sum_by (λ (t : RowTerm). unsigned_abs t.entry) (take i terms) * (2 ^ 80 - 1))
 
-pub sides_less : (terms : List RowTerm) (i : ℕ) (d : RowTerm) (multipliers : List ℕ) (more less size m : ℕ) → i < length terms → size ≡ unsigned_abs (get_or terms i d).entry → m ≡ get_or multipliers (get_or terms i d).row 0 → m < 2 ^ 80 → (get_or terms i d).entry <ℤ pos 0 → AreSides terms multipliers i more less → AreSides terms multipliers (i + 1) more (less + size * m)
+pub sides_less : (terms : List RowTerm) (i : ℕ) (d : RowTerm) (multipliers : List ℕ) (more less size m : ℕ) → i < length terms → size ≡ unsigned_abs (get_or terms i d).entry → m ≡ get_or multipliers ((get_or terms i d).row) 0 → m < 2 ^ 80 → (get_or terms i d).entry <ℤ pos 0 → AreSides terms multipliers i more less → AreSides terms multipliers (i + 1) more (less + size * m)
 sides_less terms i d multipliers more less size m h is_size is_m small negative so_far =
-    let product = product_negative (get_or terms i d).entry (get_or multipliers (get_or terms i d).row 0) negative in
+    let product = product_negative (get_or terms i d).entry (get_or multipliers ((get_or terms i d).row) 0) negative in
     let sum = so_far.0 in
     let sizes = total_more (sum_by (λ (t : RowTerm). unsigned_abs t.entry) (take i terms)) (more + less) size m so_far.1 small in
     (rw (terms_sum_more terms i d multipliers h, product, ← is_size, ← is_m) (omega (arith, ints)), rw (sum_by_more (λ (t : RowTerm). unsigned_abs t.entry) terms i d h, ← is_size) (omega arith))
 
-pub sides_more : (terms : List RowTerm) (i : ℕ) (d : RowTerm) (multipliers : List ℕ) (more less size m : ℕ) → i < length terms → size ≡ unsigned_abs (get_or terms i d).entry → m ≡ get_or multipliers (get_or terms i d).row 0 → m < 2 ^ 80 → pos 0 ≤ℤ (get_or terms i d).entry → AreSides terms multipliers i more less → AreSides terms multipliers (i + 1) (more + size * m) less
+pub sides_more : (terms : List RowTerm) (i : ℕ) (d : RowTerm) (multipliers : List ℕ) (more less size m : ℕ) → i < length terms → size ≡ unsigned_abs (get_or terms i d).entry → m ≡ get_or multipliers ((get_or terms i d).row) 0 → m < 2 ^ 80 → pos 0 ≤ℤ (get_or terms i d).entry → AreSides terms multipliers i more less → AreSides terms multipliers (i + 1) (more + size * m) less
 sides_more terms i d multipliers more less size m h is_size is_m small positive so_far =
-    let product = product_positive (get_or terms i d).entry (get_or multipliers (get_or terms i d).row 0) positive in
+    let product = product_positive (get_or terms i d).entry (get_or multipliers ((get_or terms i d).row) 0) positive in
     let sum = so_far.0 in
     let sizes = total_more (sum_by (λ (t : RowTerm). unsigned_abs t.entry) (take i terms)) (more + less) size m so_far.1 small in
     (rw (terms_sum_more terms i d multipliers h, product, ← is_size, ← is_m) (omega (arith, ints)), rw (sum_by_more (λ (t : RowTerm). unsigned_abs t.entry) terms i d h, ← is_size) (omega arith))

@@ -13,6 +13,10 @@ is_in_range z = nat_lt (unsigned_abs z) (2 ^ 127)
 abbrev pub AreInRange : List ℤ → Type 0
 AreInRange row = All IsInRange row
 
+-- an entry of a narrow row
+abbrev pub IsNarrow : ℤ → Type 0
+IsNarrow z = unsigned_abs z < 2 ^ 31
+
 -- ---- the combination of two rows
 
 -- `p * x - a * y`; or, where a product or the difference leaves the range, the factors of the first such product,

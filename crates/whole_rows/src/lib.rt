@@ -10,7 +10,7 @@ mod rows;
 pub use duals::{first_failing, good_multipliers_bound};
 use listed::Listed;
 pub use listed::Memory;
-pub use row::{Row, RowFault, combine, combined_entry, first_negative, gcd, primitive};
+pub use row::{Row, RowFault, combine, combined_entry, first_negative, gcd, narrow_gcd, primitive};
 pub use rows::Rows;
 
 /// An entry of a row that isn't 0, with its column.

@@ -1,6 +1,6 @@
-ghost use Rattle.std.specs.Prelude.{◌≡◌, ◌<◌, ◌≤◌, ◌^◌, ◌-ℤ◌, ◌*ℤ◌, length, Ok, unsigned_abs, pos, int_div, IsTrue, ◌↔◌, SomeIff, IfOk, slice_get, slice_index, set, Some};
+ghost use Rattle.std.specs.Prelude.{◌≡◌, ◌<◌, ◌≤◌, ◌^◌, ◌-ℤ◌, ◌*ℤ◌, length, Ok, unsigned_abs, pos, int_div, IsTrue, ◌↔◌, All, SomeIff, IfOk, slice_get, slice_index, set, Some};
 ghost use Rattle.std.specs.Int.{IsGcd};
-ghost use Rattle.whole_rows.specs.Row.{IsInRange, AreInRange, combined_entry, IsCombinedEntry, combination, IsCombination, gcd_of, nat_gcd, divisor_of, divided_by, primitive_of, first_negative_of};
+ghost use Rattle.whole_rows.specs.Row.{IsInRange, IsNarrow, AreInRange, combined_entry, IsCombinedEntry, combination, IsCombination, gcd_of, nat_gcd, divisor_of, divided_by, primitive_of, first_negative_of};
 
 use listed::Memory;
 use std::alloc::{AllocError, AllocFailed, Global};
@@ -97,6 +97,13 @@ impl Row {
         self.entries[i]
     }
 
+    /// Whether each entry is below 2^31 in size. Takes no memory.
+    pub fn is_narrow(&self) -> bool
+        ensures { IsTrue result ↔ All IsNarrow self.now }
+    {
+        are_narrow(self.entries.as_slice())
+    }
+
     /// A law: every entry of a row is in range. Does nothing.
     pub fn entries_are_in_range(&self)
         ensures { AreInRange self.now }
@@ -112,6 +119,18 @@ impl Row {
     {
         self.entries[i] = entry;
     }
+}
+
+/// Whether each entry is below 2^31 in size.
+fn are_narrow(entries: &[i128]) -> bool
+    ensures { IsTrue result ↔ All IsNarrow entries.now }
+{
+    for entry in entries {
+        if *entry <= -0x8000_0000 || *entry >= 0x8000_0000 {
+            return false;
+        }
+    }
+    true
 }
 
 /// Whether a number fits 64 bits with its sign, so that two such numbers have a product in range.
@@ -247,10 +266,11 @@ fn common_divisor(a: u128, b: u128) -> u128
     if y == 0 {
         return x;
     }
-    u128::from(narrow_divisor(y as u64, (x % y) as u64))
+    u128::from(narrow_gcd(y as u64, (x % y) as u64))
 }
 
-fn narrow_divisor(a: u64, b: u64) -> u64
+/// The greatest common divisor of two numbers of 64 bits, 0 for two zeros.
+pub fn narrow_gcd(a: u64, b: u64) -> u64
     ensures { result ≡ nat_gcd a b }
 {
     let mut x = a;

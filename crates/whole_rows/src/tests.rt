@@ -111,6 +111,56 @@ fn divides_and_searches_rows(rt: HostRuntime) -> Result<(), Fail> {
     Ok(())
 }
 
+/// Zeros, and at the last place the number.
+fn ended_by(alloc: Global, len: usize, number: i64) -> Result<Row, Memory>
+    requires { 0 < len }
+{
+    let mut numbers = Vec::new(alloc);
+    for _place in 1..len {
+        numbers.push(0)?;
+    }
+    numbers.push(number)?;
+    row_of(alloc, numbers.as_slice())
+}
+
+#[test]
+fn tells_narrow_rows(rt: HostRuntime) -> Result<(), Fail> {
+    let alloc = rt.alloc();
+    let edge = 0x7FFF_FFFF;
+    let row = row_of(alloc, &[edge])?;
+    let pivot_row = row_of(alloc, &[-edge])?;
+    assert!(rt; row.is_narrow() && pivot_row.is_narrow());
+    assert!(rt; !row_of(alloc, &[edge + 1])?.is_narrow());
+    assert!(rt; !row_of(alloc, &[-edge - 1])?.is_narrow());
+    let mut combined = combine(alloc, &row, i128::from(edge), &pivot_row, i128::from(edge))?;
+    assert_eq!(rt;
+        entries_of(alloc, &combined)?.as_slice(),
+        [9_223_372_028_264_841_218].as_slice()
+    );
+    assert!(rt; !combined.is_narrow());
+    primitive(&mut combined);
+    assert_eq!(rt; entries_of(alloc, &combined)?.as_slice(), [1].as_slice());
+    assert!(rt; combined.is_narrow());
+    Ok(())
+}
+
+#[test]
+fn reads_the_last_entry_of_each_length(rt: HostRuntime) -> Result<(), Fail> {
+    let alloc = rt.alloc();
+    assert_eq!(rt; first_negative(&row_of(alloc, &[])?), None);
+    for len in 1..41 {
+        let row = ended_by(alloc, len, 3)?;
+        let pivot_row = ended_by(alloc, len, 5)?;
+        assert_eq!(rt; first_negative(&row), None, "at {len}");
+        assert_eq!(rt; pivot_row.len(), row.len());
+        let combined = combine(alloc, &row, 2, &pivot_row, 7)?;
+        assert_eq!(rt; combined.len(), len);
+        assert_eq!(rt; combined.get(len - 1), -29, "at {len}");
+        assert_eq!(rt; first_negative(&combined), Some(len - 1), "at {len}");
+    }
+    Ok(())
+}
+
 #[test]
 fn changes_one_entry(rt: HostRuntime) -> Result<(), Fail> {
     let alloc = rt.alloc();

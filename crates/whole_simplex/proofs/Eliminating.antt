@@ -7,18 +7,17 @@ use Rattle.std.proofs.lemmas.List.{append-nil, length-map, length-take, get_or-d
 use Rattle.std.proofs.lemmas.List.Edits.{map_over_more}
 use Rattle.std.proofs.lemmas.Grind.{flat_map-append}
 use Rattle.std.proofs.lemmas.List.{take_more}
-use Rattle.whole_rows.specs.Row.{combination, is_zero, primitive_of}
+use Rattle.whole_rows.specs.Row.{IsCombination, combination, is_zero, primitive_of}
 use Rattle.whole_rows.specs.declared.row.RowFault.{RowFault}
 use Rattle.whole_rows.specs.declared.row.RowFault.TheVariants.{Wide, Memory}
 use Rattle.whole_simplex.specs.declared.line.Line.{Line}
 use Rattle.whole_simplex.specs.Faults.{IsFaultOf, eliminated_line, eliminated_pairs}
 use Rattle.whole_simplex.specs.Outcome.{Pair, AreNarrow, combination_pairs, elimination_pairs}
-use Rattle.whole_simplex.specs.Places.{BecomesCombination}
 use Rattle.whole_simplex.specs.Tables.{entry, combined, eliminated}
 use Rattle.whole_simplex.proofs.FaultLemmas.{fault_left, fault_right}
 use Rattle.whole_simplex.proofs.Pairs.{combination_ok, combination_err, narrow_append}
 
-not_zero : (x : ℤ) → x ≢ pos 0 → is_zero x ≡ false
+pub not_zero : (x : ℤ) → x ≢ pos 0 → is_zero x ≡ false
 not_zero (pos zero) h = absurd (h refl)
 not_zero (pos (suc n)) h = grind (arith, nat_tests)
 not_zero (negsuc n) h = grind (arith, nat_tests)
@@ -39,9 +38,9 @@ eliminates_done place pivot row sum new h e f = by_test (is_zero (entry row plac
         let parts = combination_ok (entry pivot place) row (entry row place) pivot sum e in
         (f ∙ ap primitive_of parts.0, parts.1)
 
-pub eliminates_wide : (place : ℕ) (pivot row new : List ℤ) (p a : ℤ) (fault : RowFault) → entry row place ≢ pos 0 → p ≡ entry pivot place → a ≡ entry row place → BecomesCombination (combination row p pivot a) new (Err fault) → IsFaultOf (elimination_pairs place pivot row) fault
-eliminates_wide place pivot row new p a Memory h at_p at_a e = tt
-eliminates_wide place pivot row new p a (Wide b d) h at_p at_a e = by_test (is_zero (entry row place)) (not_zero (entry row place) h)
+pub eliminates_wide : (place : ℕ) (pivot row : List ℤ) (p a : ℤ) (fault : RowFault) → entry row place ≢ pos 0 → p ≡ entry pivot place → a ≡ entry row place → IsCombination (combination row p pivot a) (Err fault) → IsFaultOf (elimination_pairs place pivot row) fault
+eliminates_wide place pivot row p a Memory h at_p at_a e = tt
+eliminates_wide place pivot row p a (Wide b d) h at_p at_a e = by_test (is_zero (entry row place)) (not_zero (entry row place) h)
   where
     same : combination row (entry pivot place) pivot (entry row place) ≡ Err (b, d)
     same = sym (ap (λ x. combination row x pivot a) at_p ∙ ap (λ y. combination row (entry pivot place) pivot y) at_a) ∙ e

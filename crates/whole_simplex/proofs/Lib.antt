@@ -24,4 +24,6 @@ pub mod Building
 pub mod Reading
 pub mod Multiples
 pub mod Turning
-pub mod Sparse
+pub mod Scaled
+pub mod Subtracting
+pub mod Reducing

@@ -44,6 +44,11 @@ abbrev pub Eliminates : ℕ → List ℤ → List ℤ → List ℤ → Result Do
 Eliminates place pivot old new (Ok done) = (new ≡ eliminated place pivot old) × AreNarrow (elimination_pairs place pivot old)
 Eliminates place pivot old new (Err fault) = IsFaultOf (elimination_pairs place pivot old) fault
 
+-- the row that an elimination makes of another one
+abbrev pub GivesEliminated : ℕ → List ℤ → List ℤ → Result (List ℤ) RowFault → Type 0
+GivesEliminated place pivot old (Ok new) = (new ≡ eliminated place pivot old) × AreNarrow (elimination_pairs place pivot old)
+GivesEliminated place pivot old (Err fault) = IsFaultOf (elimination_pairs place pivot old) fault
+
 -- a line that isn't the pivot line, after the pivot, and its pairs
 abbrev pub eliminated_line : ℕ → List ℤ → Line → Line
 eliminated_line place pivot line = record { basic = line.basic; entries = eliminated place pivot line.entries }

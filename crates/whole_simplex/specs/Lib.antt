@@ -3,3 +3,5 @@ pub mod Outcome
 pub mod Answers
 pub mod Faults
 pub mod Places
+pub mod Sizes
+pub mod Narrow

@@ -3,13 +3,13 @@
 //! number that would leave its range is reported, and none is rounded.
 #![tactic(auto)]
 
-mod combining;
-mod dividing;
+mod divisor;
+mod entries;
 mod exact;
 mod line;
+mod narrow;
 mod optimal;
 mod pivot;
-mod places;
 mod ratio_test;
 mod rays;
 mod solving;
@@ -17,6 +17,7 @@ mod table;
 #[cfg(test)]
 mod tests;
 
+pub use entries::Entries;
 pub use line::Line;
 pub use solving::solve;
 use thiserror::Error;

@@ -4,6 +4,7 @@ ghost use Rattle.whole_simplex.specs.Faults.{FindsMultipliers};
 ghost use Rattle.whole_simplex.specs.Outcome.{SaysOutcome, is_large, optimal_outcome};
 ghost use Rattle.whole_simplex.specs.Tables.{entry, width};
 
+use crate::entries::Entries;
 use crate::line::entry;
 use crate::{Optimum, SolveFault};
 use std::alloc::Global;
@@ -17,7 +18,7 @@ pub fn is_large(value: i128) -> bool
 }
 
 /// The slack entries of the objective row, or one of them that is too large.
-fn multipliers(alloc: Global, rows: &Rows, objective: &Row) -> Result<Row, SolveFault>
+fn multipliers(alloc: Global, rows: &Rows, objective: &Entries) -> Result<Row, SolveFault>
     requires room { width rows.now + 2 < 2 ^ 64 }
     requires objective { length objective.now ≡ width rows.now + 2 }
     ensures { FindsMultipliers rows.now objective.now result }
@@ -50,7 +51,7 @@ pub fn quotient(value: i128, denominator: i128) -> i128
 pub fn optimum(
     alloc: Global,
     rows: &Rows,
-    objective: &Row,
+    objective: &Entries,
     pivots: u32,
 ) -> Result<Optimum, SolveFault>
     requires room { width rows.now + 2 < 2 ^ 64 }

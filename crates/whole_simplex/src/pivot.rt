@@ -1,45 +1,105 @@
-ghost use Rattle.std.specs.Prelude.{◌≡◌, ◌<◌, length, All, Some, slice_get};
-ghost use Rattle.whole_rows.specs.Row.{combination};
-ghost use Rattle.whole_simplex.specs.Faults.{Eliminates, EliminatesAll, Pivots};
-ghost use Rattle.whole_simplex.specs.Places.{BecomesCombination, places_of};
-ghost use Rattle.whole_simplex.specs.Tables.{AreDistinct};
+ghost use Rattle.std.specs.Prelude.{◌≡◌, ◌≢◌, ◌<◌, length, pos, All, Some, slice_get};
+ghost use Rattle.std.specs.Option.{ForSome};
+ghost use Rattle.whole_simplex.specs.Faults.{Eliminates, EliminatesAll, GivesEliminated, Pivots};
+ghost use Rattle.whole_simplex.specs.Narrow.{IsPivotOf, MayEliminate};
+ghost use Rattle.whole_simplex.specs.Tables.{AreDistinct, entry};
 
-use crate::combining::{combine_all, subtract};
-use crate::dividing::make_primitive;
+use crate::entries::Entries;
 use crate::line::{Line, entry};
-use crate::places::places_of;
+use crate::narrow::NarrowPivot;
 use std::alloc::Global;
-use whole_rows::{Row, RowFault};
+use whole_rows::{Row, RowFault, combine, primitive};
 
-/// Combines the row with the pivot row, which has the entry `p` at the entering place and the given
-/// places that aren't 0.
-fn reduce(row: &mut Row, p: i128, pivot: &Row, a: i128, places: &[usize]) -> Result<(), RowFault>
-    requires same { length row.old ≡ length pivot.now }
-    requires places { places.now ≡ places_of pivot.now }
-    ensures { BecomesCombination (combination row.old p pivot.now a) row.new result }
+/// The row made 0 at the place by means of the pivot row, and primitive.
+fn eliminated_row(alloc: Global, row: &Row, pivot: &Row, place: usize) -> Result<Row, RowFault>
+    requires same { length row.now ≡ length pivot.now }
+    requires place { place < length pivot.now }
+    requires entry { entry row.now place ≢ pos 0 }
+    ensures { GivesEliminated place pivot.now row.now result }
 {
-    if p == 1 {
-        return subtract(row, pivot, a, places);
+    match combine(alloc, row, pivot.get(place), pivot, row.get(place)) {
+        Ok(mut combined) => {
+            primitive(&mut combined);
+            Ok(combined)
+        }
+        Err(fault) => Err(fault),
     }
-    combine_all(row, p, pivot, a)
+}
+
+/// The same of the entries of lines.
+fn eliminated_entries(
+    alloc: Global,
+    row: &Entries,
+    pivot: &Entries,
+    place: usize,
+) -> Result<Entries, RowFault>
+    requires same { length row.now ≡ length pivot.now }
+    requires place { place < length pivot.now }
+    requires entry { entry row.now place ≢ pos 0 }
+    ensures { GivesEliminated place pivot.now row.now result }
+{
+    let row = match row.widened(alloc) {
+        Ok(row) => row,
+        Err(_) => return Err(RowFault::Memory),
+    };
+    let pivot = match pivot.widened(alloc) {
+        Ok(pivot) => pivot,
+        Err(_) => return Err(RowFault::Memory),
+    };
+    let new = match eliminated_row(alloc, &row, &pivot, place) {
+        Ok(new) => new,
+        Err(fault) => return Err(fault),
+    };
+    match Entries::from_row(alloc, new) {
+        Ok(new) => Ok(new),
+        Err(_) => Err(RowFault::Memory),
+    }
+}
+
+/// Makes the row 0 at the place within 64 bits, where that can be. Answers whether it was done.
+fn eliminate_narrow(
+    row: &mut Entries,
+    own: usize,
+    pivot: &Entries,
+    narrow: &Option<NarrowPivot>,
+    place: usize,
+) -> bool
+    requires same { length row.old ≡ length pivot.now }
+    requires narrow { ForSome narrow.now (IsPivotOf pivot.now) }
+    requires place { place < length pivot.now }
+    requires entry { entry row.old place ≢ pos 0 }
+    ensures { MayEliminate place pivot.now row.old row.new result }
+{
+    match narrow {
+        Some(narrow) => row.eliminate(own, narrow, place),
+        None => false,
+    }
 }
 
 /// Makes the row 0 at the place by means of the pivot row, and primitive. A row that is 0 there
-/// already isn't touched.
-fn eliminate(row: &mut Row, pivot: &Row, places: &[usize], place: usize) -> Result<(), RowFault>
+/// already isn't touched. The place `own` is that of the row's basic column.
+fn eliminate(
+    alloc: Global,
+    row: &mut Entries,
+    own: usize,
+    pivot: &Entries,
+    narrow: &Option<NarrowPivot>,
+    place: usize,
+) -> Result<(), RowFault>
     requires same { length row.old ≡ length pivot.now }
-    requires places { places.now ≡ places_of pivot.now }
+    requires narrow { ForSome narrow.now (IsPivotOf pivot.now) }
     requires place { place < length pivot.now }
     ensures { Eliminates place pivot.now row.old row.new result }
 {
-    let a = entry(row, place);
-    if a == 0 {
+    if entry(row, place) == 0 {
         return Ok(());
     }
-    let p = entry(pivot, place);
-    match reduce(row, p, pivot, a, places) {
-        Ok(()) => {
-            make_primitive(row, p == 1);
+    if eliminate_narrow(row, own, pivot, narrow, place) {
+        return Ok(());
+    }
+    match eliminated_entries(alloc, row, pivot, place) {
+        Ok(new) => {
+            *row = new;
             Ok(())
         }
         Err(fault) => Err(fault),
@@ -48,19 +108,20 @@ fn eliminate(row: &mut Row, pivot: &Row, places: &[usize], place: usize) -> Resu
 
 /// Eliminates the entering place from each of the lines.
 fn eliminate_all(
+    alloc: Global,
     lines: &mut [Line],
-    pivot: &Row,
-    places: &[usize],
+    pivot: &Entries,
+    narrow: &Option<NarrowPivot>,
     place: usize,
 ) -> Result<(), RowFault>
     requires same { All (λ line. length line.entries ≡ length pivot.now) lines.old }
-    requires places { places.now ≡ places_of pivot.now }
+    requires narrow { ForSome narrow.now (IsPivotOf pivot.now) }
     requires place { place < length pivot.now }
     ensures { EliminatesAll place pivot.now lines.old lines.new result }
 {
     for i in 0..lines.len() {
         let line = &mut lines[i];
-        match eliminate(&mut line.entries, pivot, places, place) {
+        match eliminate(alloc, &mut line.entries, line.basic, pivot, narrow, place) {
             Ok(()) => {}
             Err(fault) => return Err(fault),
         }
@@ -73,7 +134,7 @@ fn eliminate_all(
 pub fn pivot(
     alloc: Global,
     lines: &mut [Line],
-    objective: &mut Row,
+    objective: &mut Entries,
     place: usize,
     leaving: usize,
 ) -> Result<(), RowFault>
@@ -90,19 +151,20 @@ pub fn pivot(
         Some(parts) => parts,
         None => unreachable!(),
     };
-    let places = match places_of(alloc, &pivot.entries) {
-        Ok(places) => places,
+    let narrow = match pivot.entries.narrow_pivot(alloc, pivot.basic) {
+        Ok(narrow) => narrow,
         Err(_) => return Err(RowFault::Memory),
     };
-    match eliminate_all(before, &pivot.entries, places.as_slice(), place) {
+    match eliminate_all(alloc, before, &pivot.entries, &narrow, place) {
         Ok(()) => {}
         Err(fault) => return Err(fault),
     }
-    match eliminate_all(after, &pivot.entries, places.as_slice(), place) {
+    match eliminate_all(alloc, after, &pivot.entries, &narrow, place) {
         Ok(()) => {}
         Err(fault) => return Err(fault),
     }
-    match eliminate(objective, &pivot.entries, places.as_slice(), place) {
+    let own = objective.len().saturating_sub(2);
+    match eliminate(alloc, objective, own, &pivot.entries, &narrow, place) {
         Ok(()) => {}
         Err(fault) => return Err(fault),
     }

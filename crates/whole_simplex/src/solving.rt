@@ -6,6 +6,7 @@ ghost use Rattle.whole_simplex.specs.Faults.{FindsLeaving, IsAt, TurnsTable, fau
 ghost use Rattle.whole_simplex.specs.Outcome.{SaysOutcome, outcome_from, outcome_of, ray_outcome};
 ghost use Rattle.whole_simplex.specs.Tables.{entering, entry, table_at, width};
 
+use crate::entries::Entries;
 use crate::line::Line;
 use crate::optimal::optimum;
 use crate::pivot::pivot;
@@ -14,7 +15,7 @@ use crate::rays::direction;
 use crate::table::{first_lines, first_objective};
 use crate::{Optimum, SolveFault};
 use std::alloc::Global;
-use whole_rows::{Row, RowFault, Rows, first_negative};
+use whole_rows::{RowFault, Rows};
 
 /// A table has at most this many entries beside its objective row.
 const MOST_ENTRIES: u128 = 16_777_216;
@@ -79,7 +80,7 @@ fn step(
     alloc: Global,
     rows: &Rows,
     lines: &mut [Line],
-    objective: &mut Row,
+    objective: &mut Entries,
     place: usize,
     number: u32,
     left: u32,
@@ -120,7 +121,7 @@ fn turn(
     alloc: Global,
     rows: &Rows,
     lines: &mut [Line],
-    objective: &mut Row,
+    objective: &mut Entries,
     number: u32,
     left: u32,
 ) -> Option<Result<Optimum, SolveFault>>
@@ -129,7 +130,7 @@ fn turn(
     requires at { IsAt rows.now number lines.old objective.old }
     ensures { TurnsTable rows.now number left lines.new objective.new result }
 {
-    match first_negative(objective) {
+    match objective.first_negative() {
         None => Some(optimum(alloc, rows, objective, number)),
         Some(place) => step(alloc, rows, lines, objective, place, number, left),
     }

@@ -2,6 +2,7 @@ ghost use Rattle.std.specs.Prelude.{◌≡◌, ◌+◌, ◌<◌, ◌^◌, ◌++�
 ghost use Rattle.whole_rows.specs.Rows.{row_at, right_at};
 ghost use Rattle.whole_simplex.specs.Tables.{first_line, first_objective, lines_from};
 
+use crate::entries::Entries;
 use crate::line::Line;
 use std::alloc::Global;
 use whole_rows::{Memory, Row, Rows};
@@ -55,7 +56,7 @@ fn first_line(alloc: Global, rows: &Rows, row: usize) -> Result<Line, Memory>
     entries.push(rows.right(row))?;
     Ok(Line {
         basic: rows.column_count() + row,
-        entries: Row::from_vec(entries),
+        entries: Entries::from_row(alloc, Row::from_vec(entries))?,
     })
 }
 
@@ -72,7 +73,7 @@ pub fn first_lines(alloc: Global, rows: &Rows) -> Result<Vec<Line>, Memory>
 }
 
 /// The objective row of table 0: the negated costs, zeros, 1 for the objective and 0.
-pub fn first_objective(alloc: Global, rows: &Rows) -> Result<Row, Memory>
+pub fn first_objective(alloc: Global, rows: &Rows) -> Result<Entries, Memory>
     ensures { IfOk result (λ objective. objective ≡ first_objective rows.now) }
 {
     let mut entries = Vec::new(alloc);
@@ -80,5 +81,5 @@ pub fn first_objective(alloc: Global, rows: &Rows) -> Result<Row, Memory>
     push_zeros(&mut entries, rows.row_count())?;
     entries.push(1)?;
     entries.push(0)?;
-    Ok(Row::from_vec(entries))
+    Entries::from_row(alloc, Row::from_vec(entries))
 }

@@ -20,23 +20,23 @@ next d multipliers i total size right are h is in_range positive is_size small s
 pub loop-row-preserved : goal.loop-row-preserved
 loop-row-preserved c =
     let within : c.loop-row.row < length c.args.rows.now.rows = omega (arith, c.loop-row-test.true, c.row_count-row-end.ensures.value) in
-    let small = c.requires.multipliers_small c.loop-row.row 0 (omega (arith, c.requires.counted, c.row_count-row-end.ensures.value)) in
+    let small = c.requires.multipliers_small (c.loop-row.row) 0 (omega (arith, c.requires.counted, c.row_count-row-end.ensures.value)) in
     next c.args.rows.now c.args.multipliers.now c.loop-row.row c.loop-row.total c.unsigned_abs.result c.right.result c.row_count-row-end.ensures.rows within c.right.ensures.value c.right.ensures.in_range c.right.ensures.not_negative c.unsigned_abs.ensures.value small c.loop-row.invariant
 
 pub overflow_add-total : goal.overflow_add-total
 overflow_add-total c =
     let within : c.loop-row.row < length c.args.rows.now.rows = omega (arith, c.loop-row-test.true, c.row_count-row-end.ensures.value) in
-    let small = c.requires.multipliers_small c.loop-row.row 0 (omega (arith, c.requires.counted, c.row_count-row-end.ensures.value)) in
+    let small = c.requires.multipliers_small (c.loop-row.row) 0 (omega (arith, c.requires.counted, c.row_count-row-end.ensures.value)) in
     let more = next c.args.rows.now c.args.multipliers.now c.loop-row.row c.loop-row.total c.unsigned_abs.result c.right.result c.row_count-row-end.ensures.rows within c.right.ensures.value c.right.ensures.in_range c.right.ensures.not_negative c.unsigned_abs.ensures.value small c.loop-row.invariant in
-    let bound = total_fits c.args.rows.now.rights (c.loop-row.row + 1) c.args.multipliers.now (c.loop-row.total + c.unsigned_abs.result * get_or c.args.multipliers.now c.loop-row.row 0) c.requires.sizes.rights more in
+    let bound = total_fits c.args.rows.now.rights (c.loop-row.row + 1) c.args.multipliers.now (c.loop-row.total + c.unsigned_abs.result * get_or c.args.multipliers.now (c.loop-row.row) 0) c.requires.sizes.rights more in
     omega arith
 
 pub overflow_mul-total : goal.overflow_mul-total
 overflow_mul-total c =
     let within : c.loop-row.row < length c.args.rows.now.rows = omega (arith, c.loop-row-test.true, c.row_count-row-end.ensures.value) in
-    let small = c.requires.multipliers_small c.loop-row.row 0 (omega (arith, c.requires.counted, c.row_count-row-end.ensures.value)) in
+    let small = c.requires.multipliers_small (c.loop-row.row) 0 (omega (arith, c.requires.counted, c.row_count-row-end.ensures.value)) in
     let more = next c.args.rows.now c.args.multipliers.now c.loop-row.row c.loop-row.total c.unsigned_abs.result c.right.result c.row_count-row-end.ensures.rows within c.right.ensures.value c.right.ensures.in_range c.right.ensures.not_negative c.unsigned_abs.ensures.value small c.loop-row.invariant in
-    let bound = total_fits c.args.rows.now.rights (c.loop-row.row + 1) c.args.multipliers.now (c.loop-row.total + c.unsigned_abs.result * get_or c.args.multipliers.now c.loop-row.row 0) c.requires.sizes.rights more in
+    let bound = total_fits c.args.rows.now.rights (c.loop-row.row + 1) c.args.multipliers.now (c.loop-row.total + c.unsigned_abs.result * get_or c.args.multipliers.now (c.loop-row.row) 0) c.requires.sizes.rights more in
     omega arith
 
 pub returns : goal.returns

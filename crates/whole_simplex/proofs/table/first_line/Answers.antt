@@ -38,5 +38,5 @@ returns c =
     line_put_together (length d.rows) i (c.row_count-count.result - i - 1) (row_at d i) _ _ _ _ _ c.push-3.new.self.items (right_at d i)
     (omega (arith, c.row_count-count.ensures.value, c.requires.row)) first c.in_ok-push_zeros.ensures c.in_ok-push.ensures.items c.in_ok-push_zeros-2.ensures c.in_ok-push-2.ensures.items
     (last ∙ ap (λ x. c.push-2.new.self.items ++ x ∷ []) c.right.ensures.value) in
-    ap (λ (es : List ℤ). record { basic = c.column_count.result + i; entries = es }) (c.from_vec.ensures ∙ whole)
+    ap (λ (es : List ℤ). record { basic = c.column_count.result + i; entries = es }) (c.in_ok-from_row.ensures ∙ c.from_vec.ensures ∙ whole)
     ∙ ap (λ (n : ℕ). record { basic = n + i; entries = row_at d i ++ unit_row (length d.rows) i ++ pos 0 ∷ right_at d i ∷ [] }) c.column_count.ensures
