@@ -7,3 +7,4 @@ pub mod PlainLemmas
 pub mod Fields
 pub mod PlainImage
 pub mod PlainSymbols
+pub mod Lawful

@@ -7,7 +7,7 @@ use Rattle.std.proofs.lemmas.List.Sorted.{sum_by-IsPermutation, All-permutation}
 use Rattle.std.proofs.lemmas.List.Elements.{filter_passes}
 use Rattle.std.proofs.lemmas.Bool.{lt-ltb, le-ltb, ltb-true, ltb-false, le-leb, lt-leb, cases_lt}
 use Rattle.elf_image.specs.Elf.{shares, overlaps, is_within}
-use Rattle.elf_image.specs.Spans.{is_filled, IsInOrder, end_of, reach_of}
+use Rattle.elf_image.specs.Working.Spans.{is_filled, IsInOrder, end_of, reach_of}
 use Rattle.elf_image.specs.declared.headers.ProgramHeader.{ProgramHeader}
 use Rattle.elf_image.specs.declared.headers.SectionHeader.{SectionHeader}
 

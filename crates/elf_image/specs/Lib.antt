@@ -1,6 +1,6 @@
+pub mod Kinds
 pub mod Image
 pub mod Flat
 pub mod Elf
-pub mod Spans
-pub mod Parts
+pub mod Working
 pub mod Plain

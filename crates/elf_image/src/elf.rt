@@ -1,9 +1,11 @@
-ghost use Rattle.std.specs.Prelude.{◌≡◌, ◌≤◌, ◌<◌, ◌&&◌, All, false, true, length, map, Some, IfOk, MatchOption};
+//! The reader of ELF files: each fault in its order, then the image.
+ghost use Rattle.std.specs.Prelude.{◌≡◌, ◌^◌, ◌≤◌, ◌<◌, ◌&&◌, ℕ, slice_index, All, false, true, length, map, Some, IfOk, MatchOption};
 ghost use Rattle.std.specs.List.{list_all};
-ghost use Rattle.elf_image.specs.Spans.{IsInOrder};
-ghost use Rattle.elf_image.specs.Image.{Gives, symbol_in};
-ghost use Rattle.elf_image.specs.Elf.{elf_of, judged, header_fault_of, body_fault_of, image_of, parts_fit, symbols_fit, symbol_table_fits, has_magic, has_class, tables_fit, late_fault_of, segment_of, section_of, names_of, segment_fits, code_fits, symbol_table_of};
-ghost use Rattle.elf_image.specs.Parts.{HasParts, HasEntries};
+ghost use Rattle.elf_image.specs.Working.Spans.{IsInOrder};
+ghost use Rattle.listed.specs.Faults.{Gives};
+ghost use Rattle.elf_image.specs.Image.{symbol_in};
+ghost use Rattle.elf_image.specs.Elf.{elf_of, judged, header_fault_of, body_fault_of, image_of, parts_fit, symbols_fit, symbol_table_fits, has_magic, has_class, tables_fit, late_fault_of, overlaps, segment_of, section_of, names_of, segment_fits, code_fits, symbol_table_of};
+ghost use Rattle.elf_image.specs.Working.Parts.{HasParts, HasEntries};
 
 use crate::fault::{ElfFault, ElfKind};
 use crate::headers::{ProgramHeader, SectionHeader, field2, field4};
@@ -199,17 +201,27 @@ fn image(
     names: &[u8],
     entries: Vec<Entry>,
 ) -> Result<Image, Memory>
-    requires { list_all (segment_fits bytes.now) parts.now.loaded.items ≡ true }
+    requires fit { list_all (segment_fits bytes.now) parts.now.loaded.items ≡ true }
+    requires apart { overlaps parts.now.loaded.items ≡ false }
+    requires code { list_all (code_fits parts.now.loaded.items) parts.now.code.items ≡ true }
     ensures { IfOk result (λ image. image ≡ record {
       code = map section_of parts.now.code.items;
       memory = map (segment_of bytes.now) parts.now.loaded.items;
       symbols = map (symbol_in names.now) entries.items;
     }) }
 {
+    are_bytes(bytes);
     let code = sections(alloc, &parts.code)?;
     let memory = segments(alloc, bytes, &parts.loaded)?;
     let names = Bytes::from_slice(alloc, names)?;
     Ok(Image::new(code, memory, names, Listed::from_vec(entries)))
+}
+
+/// The law that a slice of bytes holds bytes.
+fn are_bytes(bytes: &[u8])
+    ensures { (k : ℕ) → slice_index bytes.now k < 2 ^ 8 }
+{
+    let _bytes = bytes;
 }
 
 fn sections(alloc: Global, code: &[SectionHeader]) -> Result<Listed<Section>, Memory>

@@ -1,5 +1,6 @@
+//! Flat images: all bytes are code at address 0.
 ghost use Rattle.std.specs.Prelude.{◌≤◌, length};
-ghost use Rattle.elf_image.specs.Image.{Gives};
+ghost use Rattle.listed.specs.Faults.{Gives};
 ghost use Rattle.elf_image.specs.Flat.{flat_of};
 
 use crate::fault::{ElfFault, ElfKind};

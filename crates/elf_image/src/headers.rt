@@ -1,3 +1,4 @@
+//! The headers of an ELF file, as far as they are used.
 ghost use Rattle.std.specs.Prelude.{◌≡◌, ◌+◌, ◌≤◌, length};
 ghost use Rattle.elf_image.specs.Elf.{field2, field4, program_header, section_header, symbol_header};
 

@@ -1,6 +1,7 @@
-ghost use Rattle.std.specs.Prelude.{◌≡◌, ◌+◌, ◌++◌, ◌<◌, ◌≤◌, length, slice_get, Some, unwrap_or, map};
+//! What an image is: code, initial memory and symbols.
+ghost use Rattle.std.specs.Prelude.{◌≡◌, ◌+◌, ◌-◌, ◌%◌, ◌++◌, ◌<◌, ◌≤◌, length, slice_get, Some, unwrap_or, map};
 ghost use Rattle.std.specs.List.{list_any};
-ghost use Rattle.elf_image.specs.Image.{initial_byte, word_at, word_in, has_word, holds_word, covers, byte_in, symbol_of, symbol_in};
+ghost use Rattle.elf_image.specs.Image.{initial_byte, word_at, word_in, has_word, holds_word, covers, byte_in, symbol_of, symbol_in, IsLawful, meets_code};
 
 use crate::symbol::{Bytes, Entry, value_named};
 use byteorder::{ByteOrder, LittleEndian};
@@ -52,7 +53,8 @@ impl Segment {
     }
 }
 
-/// A program: its code words, its initial memory and its symbols.
+/// A program: its code words, its initial memory and its symbols. A contract sees it as these; every
+/// image is lawful.
 #[derive(Debug, Drop)]
 pub struct Image {
     code: Listed<Section>,
@@ -63,7 +65,7 @@ pub struct Image {
 
 impl Model for Image {
     ghost use Rattle.std.specs.Prelude.{map};
-    ghost use Rattle.elf_image.specs.Image.{ImageData, symbol_in};
+    ghost use Rattle.elf_image.specs.Image.{ImageData, IsLawful, symbol_in};
 
     ghost Value = { ImageData };
 
@@ -72,6 +74,12 @@ impl Model for Image {
       memory = a.memory;
       symbols = map (symbol_in a.names) a.entries;
     } };
+
+    ghost invariant = { λ a. IsLawful (record {
+      code = a.code;
+      memory = a.memory;
+      symbols = map (symbol_in a.names) a.entries;
+    }) };
 }
 
 impl Image {
@@ -82,6 +90,7 @@ impl Image {
         names: Bytes,
         entries: Listed<Entry>,
     ) -> Image
+        requires { IsLawful (record { code = code; memory = memory; symbols = map (symbol_in names) entries }) }
         ensures { result ≡ record { code = code; memory = memory; symbols = map (symbol_in names) entries } }
     {
         Image {
@@ -90,6 +99,13 @@ impl Image {
             names,
             entries,
         }
+    }
+
+    /// The law that images are lawful.
+    pub fn is_lawful(&self)
+        ensures { IsLawful self.now }
+    {
+        let _ = &self.code;
     }
 
     /// The code word at the address: `None` exactly where the address is no multiple of 4 or its
@@ -102,6 +118,13 @@ impl Image {
         } else {
             None
         }
+    }
+
+    /// Whether one of `size` bytes from the address on, which wrap at 2^32, is a byte of a code word.
+    pub fn meets_code(&self, address: u32, size: u32) -> bool
+        ensures { result ≡ meets_code self.now address size }
+    {
+        (0..size).any(|i| has_code_byte(self.code.as_slice(), address.wrapping_add(i)))
     }
 
     /// The value of the first symbol whose name is `prefix` and then `name`; `None` exactly where
@@ -132,6 +155,13 @@ fn has_word(code: &[Section], address: u32) -> bool
     ensures { result ≡ has_word code.now address }
 {
     address % 4 == 0 && lies_in_code(code, address)
+}
+
+/// Whether the word that holds the byte at the address is a code word.
+fn has_code_byte(code: &[Section], address: u32) -> bool
+    ensures { result ≡ has_word code.now (address - address % 4) }
+{
+    has_word(code, address - address % 4)
 }
 
 /// Whether the four bytes from the address on lie in one section.

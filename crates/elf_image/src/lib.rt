@@ -1,5 +1,11 @@
 //! Program images: 32-bit RISC-V ELF files and flat images, as code words, initial memory and
 //! symbols.
+//!
+//! ```text
+//! let image = read_elf(alloc, file.as_slice())?;
+//! let entry = image.symbol(b"Task_", b"T");
+//! let word = image.word(0x100);
+//! ```
 #![tactic(auto)]
 
 mod elf;

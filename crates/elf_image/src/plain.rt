@@ -1,3 +1,4 @@
+//! The writer of plain ELF files: one segment, its words and symbols.
 ghost use Rattle.std.specs.Prelude.{◌≡◌, ◌+◌, ◌*◌, ◌<◌, ◌≤◌, ◌^◌, ◌∷◌, ◌++◌, [], length, replicate, flat_map, All, IfOk, OnOk};
 ghost use Rattle.byteorder.specs.Endian.{little_bytes};
 ghost use Rattle.elf_image.specs.Elf.{IsImageOf};

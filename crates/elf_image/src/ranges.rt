@@ -1,3 +1,4 @@
+//! What of an ELF file lies in range.
 ghost use Rattle.std.specs.Prelude.{◌≡◌, ◌+◌, ◌&&◌, ◌<◌, ◌≤◌, ◌^◌, ◌*◌, ◌/◌, ℕ, length, take, drop, nat_lt, true, IfOk};
 ghost use Rattle.std.specs.List.{list_all};
 ghost use Rattle.elf_image.specs.Elf.{tables_fit, segment_fits, symbol_table_fits, names_of, names_header_of, entries_of, has_end, lies_in_file, section_count_of};

@@ -1,8 +1,9 @@
+//! Segments in the order of their addresses.
 ghost use Rattle.std.specs.Prelude.{◌≡◌, ◌+◌, ◌≤◌, ◌<◌, ℕ, length, filter, nat_lt, IfOk, List, All, slice_index_or};
 ghost use Rattle.std.specs.List.{list_all};
 ghost use Rattle.std.specs.List.Sorted.{IsNonDecreasingBy};
 ghost use Rattle.elf_image.specs.Elf.{overlaps, code_fits, loaded_size};
-ghost use Rattle.elf_image.specs.Spans.{IsInOrder, AreReaches, is_filled, end_of};
+ghost use Rattle.elf_image.specs.Working.Spans.{IsInOrder, AreReaches, is_filled, end_of};
 ghost use Rattle.elf_image.specs.declared.headers.ProgramHeader.{ProgramHeader};
 
 use crate::headers::{ProgramHeader, SectionHeader};

@@ -1,3 +1,4 @@
+//! Symbols and their names.
 ghost use Rattle.std.specs.Prelude.{◌≡◌, ◌==◌, ◌++◌, [], List, ℕ, false, not, map, take_while, bytes_eq, MatchOption};
 ghost use Rattle.elf_image.specs.Image.{name_at, symbol_in, value_of};
 

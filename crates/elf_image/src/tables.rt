@@ -1,3 +1,4 @@
+//! The tables of headers of an ELF file.
 ghost use Rattle.std.specs.Prelude.{◌≡◌, ◌+◌, ◌*◌, ◌≤◌, length, filter, find, map, true, IfOk};
 ghost use Rattle.std.specs.List.{list_all};
 ghost use Rattle.elf_image.specs.Elf.{headers_from, program_header, section_header, symbol_header, is_loaded, is_code, is_symbol_table, is_defined, entry_of, lies_in_file, tables_fit, loaded_of, code_of, symbol_table_of};

@@ -1,6 +1,6 @@
 -- The table read from a word is the table: what is read has the word, and each instruction that fits
 -- is read from its word.
-use Rattle.std.proofs.Common.{◌≡◌, ℕ, ◌+◌, ◌*◌, ◌^◌, ◌<◌, ℤ, pos, Bool, true, cond, Option, Some, None, IfSome, unwrap_or, arith, refl, sym, ap, ◌∙◌, lit<, negsuc, ◌≤ℤ◌, ◌<ℤ◌}
+use Rattle.std.proofs.Common.{◌≡◌, ℕ, ◌+◌, ◌*◌, ◌^◌, ◌<◌, ℤ, pos, Bool, cond, Option, Some, None, IfSome, unwrap_or, arith, refl, sym, ap, ◌∙◌, lit<, negsuc, ◌≤ℤ◌, ◌<ℤ◌, subst, true, false}
 use Rattle.std.specs.Option.{option_map}
 use Rattle.std.specs.Prelude.{◌==◌}
 use Rattle.std.proofs.lemmas.Bool.{cond_both, eqb-true}
@@ -13,7 +13,7 @@ use Rattle.rv32_decode.specs.declared.instruction.SaveOp.{SaveOp}
 use Rattle.rv32_decode.specs.declared.instruction.ImmOp.{ImmOp}
 use Rattle.rv32_decode.specs.declared.instruction.RegOp.{RegOp}
 use Rattle.rv32_decode.specs.Formats.{bits_of, imm_bits, IsSigned, r_type, i_type, s_type, b_type, u_type, j_type}
-use Rattle.rv32_decode.specs.Instructions.{LOAD, MISC_MEM, OP_IMM, AUIPC, STORE, OP, LUI, BRANCH, JALR, JAL, branch_funct3, load_funct3, save_funct3, imm_funct3, shift_funct7, reg_functs, imm_word, word_of_insn, Fits, IsWordOf, ImmFits, rd_of, rs1_of, rs2_of, funct3_of, funct7_of, i_imm, s_imm, b_imm, u_imm, j_imm, branch_of, load_of, save_of, imm_of, reg_of, imm_at, system_of, insn_under, insn_of_word}
+use Rattle.rv32_decode.specs.Instructions.{LOAD, MISC_MEM, OP_IMM, AUIPC, STORE, OP, LUI, BRANCH, JALR, JAL, branch_funct3, load_funct3, save_funct3, imm_funct3, shift_funct7, reg_functs, imm_word, word_of_insn, Fits, IsWordOf, ImmFits, RegistersFit, rd_of, rs1_of, rs2_of, funct3_of, funct7_of, i_imm, s_imm, b_imm, u_imm, j_imm, branch_of, load_of, save_of, imm_of, reg_of, imm_at, system_of, insn_under, insn_of_word}
 use Rattle.rv32_decode.proofs.WordFields.{fields_of_r_type, r_type_of_fields, i_fields, s_fields, b_fields, u_opcode, u_rd, j_opcode, j_rd}
 use Rattle.rv32_decode.proofs.Immediates.{signed_fits_12, signed_fits_13, signed_fits_21, signed_fits_32, low_13, low_21, low_32, i_spelled, s_spelled, b_spelled, u_spelled, j_spelled, i_read, s_read, b_read, u_read, j_read}
 use Rattle.rv32_decode.proofs.Operations.{branch_again, load_again, save_again, imm_again, reg_again, branch_found, load_found, save_found, imm_found, reg_found, branch_below, load_below, save_below, imm_below, shift_below, reg_below}
@@ -310,3 +310,36 @@ insn_only w insn h = ap insn_of_word h.spelled ∙ insn_read insn h.fits
 
 pub insn_none : (w : ℕ) → insn_of_word w ≡ None → (insn : Insn) → IsWordOf w insn → ⊥
 insn_none w none insn h = let only = insn_only w insn h in cc
+
+-- ---- The registers of an instruction that a word of any size gives
+
+either_fits : (b : Bool) (x y : Option Insn) → IfSome x RegistersFit → IfSome y RegistersFit → IfSome (cond b x y) RegistersFit
+either_fits true x y p q = p
+either_fits false x y p q = q
+
+map_fits : {X : Type 0} (f : X → Insn) (o : Option X) → ((x : X) → RegistersFit (f x)) → IfSome (option_map f o) RegistersFit
+map_fits f None h = tt
+map_fits f (Some x) h = h x
+
+registers_under : (opcode w : ℕ) → IfSome (insn_under opcode w) RegistersFit
+unfolding insn_under
+registers_under opcode w =
+    let d : rd_of w < 32 = omega arith in
+    let a : rs1_of w < 32 = omega arith in
+    let b : rs2_of w < 32 = omega arith in
+    either_fits (opcode == LUI) _ _ d (either_fits (opcode == AUIPC) _ _ d (either_fits (opcode == JAL) _ _ d
+    (either_fits (opcode == JALR) _ _ (either_fits (funct3_of w == 0) _ _ (d, a) tt)
+    (either_fits (opcode == BRANCH) _ _ (map_fits _ (branch_of (funct3_of w)) (λ op. (a, b)))
+    (either_fits (opcode == LOAD) _ _ (map_fits _ (load_of (funct3_of w)) (λ op. (d, a)))
+    (either_fits (opcode == STORE) _ _ (map_fits _ (save_of (funct3_of w)) (λ op. (a, b)))
+    (either_fits (opcode == OP_IMM) _ _ (map_fits _ (imm_of (funct7_of w) (funct3_of w)) (λ op. (d, a)))
+    (either_fits (opcode == OP) _ _ (map_fits _ (reg_of (funct7_of w) (funct3_of w)) (λ op. (d, a, b)))
+    (either_fits (opcode == MISC_MEM) _ _ (either_fits (funct3_of w == 0) _ _ (d, a) tt)
+    (either_fits (w == 0x00000073) _ _ tt (either_fits (w == 0x00100073) _ _ tt tt)))))))))))
+
+at_some : (o : Option Insn) (insn : Insn) → IfSome o RegistersFit → o ≡ Some insn → RegistersFit insn
+at_some o insn fits e = subst (λ (found : Option Insn). IfSome found RegistersFit) e fits
+
+pub registers_fit : (w : ℕ) (insn : Insn) → insn_of_word w ≡ Some insn → RegistersFit insn
+unfolding insn_of_word
+registers_fit w insn e = at_some (insn_under (bits_of 6 0 w) w) insn (registers_under (bits_of 6 0 w) w) e

@@ -2,10 +2,10 @@
 ghost use Rattle.std.specs.Prelude.{◌≡◌, Some, IfSome};
 ghost use Rattle.rv32_decode.specs.Instructions.{IsWordOf, insn_of_word, insn_under, system_of, i_imm, s_imm, b_imm, u_imm, j_imm, BRANCH, LOAD, STORE, OP_IMM, OP, jalr_of, fence_of, imm_at, shift_funct7, funct3_of, funct7_of};
 
-use super::fields::{bits, sign_extend};
-use super::functs::{branch_with, imm_with, load_with, reg_with, save_with};
-use super::instruction::{ImmOp, Insn};
-use super::register::RegNo;
+use crate::fields::{bits, sign_extend};
+use crate::functs::{branch_with, imm_with, load_with, reg_with, save_with};
+use crate::instruction::{ImmOp, Insn};
+use crate::register::RegNo;
 
 /// The instruction whose word this is; none exactly where the table has no line for the word.
 #[tactic(auto, using(crate::proofs::TableLaws::insn_found, crate::proofs::TableLaws::insn_only))]

@@ -3,12 +3,12 @@ ghost use Rattle.std.specs.Prelude.{◌≡◌, ◌<◌, ◌^◌, Some};
 ghost use Rattle.rv32_decode.specs.Formats.{r_type, i_type, s_type, b_type, u_type, j_type};
 ghost use Rattle.rv32_decode.specs.Instructions.{imm_funct3, shift_funct7, reg_functs, imm_word, ImmFits, ImmediateFits, RegistersFit, IsWordOf, word_of_insn, insn_of_word};
 
-use super::fields::immediate_bits;
-use super::functs::{
+use crate::fields::immediate_bits;
+use crate::functs::{
     branch_funct3, imm_funct3, load_funct3, reg_functs, save_funct3, shift_funct7,
 };
-use super::instruction::{ImmOp, Insn, RegOp};
-use super::register::RegNo;
+use crate::instruction::{ImmOp, Insn, RegOp};
+use crate::register::RegNo;
 
 /// The word of an instruction whose immediate is in the range of its format. `decode` gives the
 /// instruction again.

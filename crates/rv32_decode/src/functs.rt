@@ -2,7 +2,7 @@
 ghost use Rattle.std.specs.Prelude.{◌≡◌, ◌<◌};
 ghost use Rattle.rv32_decode.specs.Instructions.{branch_funct3, load_funct3, save_funct3, imm_funct3, shift_funct7, reg_functs, branch_of, load_of, save_of, imm_of, reg_of};
 
-use super::instruction::{BranchOp, ImmOp, LoadOp, RegOp, SaveOp};
+use crate::instruction::{BranchOp, ImmOp, LoadOp, RegOp, SaveOp};
 
 pub(crate) fn branch_funct3(op: BranchOp) -> u32
     ensures { result ≡ branch_funct3 op }

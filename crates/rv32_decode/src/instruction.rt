@@ -1,5 +1,5 @@
 //! Instructions of RV32IM, with the manual's names for their parts.
-use super::register::RegNo;
+use crate::register::RegNo;
 
 /// An instruction. `imm` and `offset` are the values that the manual's immediates stand for, after
 /// the extension of their sign; offsets are in bytes.

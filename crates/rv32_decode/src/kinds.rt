@@ -2,7 +2,7 @@
 ghost use Rattle.std.specs.Prelude.{◌≡◌};
 ghost use Rattle.rv32_decode.specs.Instructions.{class_of, reg_class};
 
-use super::instruction::{Class, Insn, RegOp};
+use crate::instruction::{Class, Insn, RegOp};
 
 /// The class of an instruction.
 pub fn class(insn: &Insn) -> Class

@@ -3,6 +3,13 @@
 //! The table is that of the RISC-V Instruction Set Manual, volume I: RV32I and the M extension, with
 //! FENCE in its general form and without the instructions of other extensions. `specs/Instructions.antt`
 //! states it once; `decode`, `encode` and `class` are proved against it.
+//!
+//! ```text
+//! if let Some(insn) = decode(0x0073_0293) {
+//!     let again = encode(&insn);
+//!     let costs_as = class(&insn);
+//! }
+//! ```
 #![tactic(auto)]
 
 mod decoding;

@@ -2,7 +2,7 @@
 ghost use Rattle.std.specs.Prelude.{◌≡◌, ◌+◌, ◌<◌, ◌≤◌, ◌↔◌, IsSome, IfSome};
 ghost use Rattle.rv32_decode.specs.Formats.{bits_of};
 
-use super::fields::bits;
+use crate::fields::bits;
 use std::marker::Model;
 
 /// The number of one of the 32 integer registers x0 to x31. A contract sees it as that number.

@@ -1,5 +1,5 @@
 -- What every instruction keeps: registers stay registers, and addresses and words stay below 2 ^ 32.
-use Rattle.std.proofs.Common.{◌≡◌, ℕ, zero, suc, ◌+◌, ◌*◌, ◌/◌, ◌%◌, ◌^◌, ◌<◌, ℤ, pos, negsuc, Bool, true, false, cond, Option, Some, None, List, length, set, get_or, arith, refl, sym, ◌∙◌, lit<, unwrap_or, subst, inl, inr}
+use Rattle.std.proofs.Common.{◌≡◌, ℕ, zero, suc, ◌+◌, ◌*◌, ◌/◌, ◌%◌, ◌^◌, ◌<◌, ℤ, pos, negsuc, Bool, true, false, cond, Option, Some, None, List, length, set, get_or, arith, refl, sym, ◌∙◌, lit<, unwrap_or, subst, inl, inr, [], ◌∷◌, replicate}
 use Rattle.std.specs.Prelude.{◌==◌, int_lt, nat_lt}
 use Rattle.std.proofs.lemmas.Bool.{cond_both}
 use Rattle.std.proofs.lemmas.Nat.{mod_below, shr_le, mul-lt, or_of_32, xor_of_32, and_le_l}
@@ -14,8 +14,13 @@ use Rattle.rv32_decode.specs.declared.instruction.LoadOp.{LoadOp}
 use Rattle.rv32_decode.specs.declared.instruction.LoadOp.TheVariants.{Lb, Lh, Lw, Lbu, Lhu}
 use Rattle.rv32_decode.specs.declared.instruction.RegOp.{RegOp}
 use Rattle.rv32_decode.specs.declared.instruction.RegOp.TheVariants.{Add, Sub, Sll, Slt, Sltu, Xor, Srl, Sra, Or, And, Mul, Mulh, Mulhsu, Mulhu, Div, Divu, Rem, Remu}
-use Rattle.rv32_machine.specs.Registers.{AreRegisters, with_value, value_of}
-use Rattle.rv32_machine.specs.Execution.{residue, word_of, signed_of, moved, flag, reg_result, operation_of, is_taken, byte_of, loaded_byte, load_result, Effect, following, gives, links, executed}
+use Rattle.rv32_decode.specs.declared.instruction.SaveOp.{SaveOp}
+use Rattle.rv32_decode.specs.declared.instruction.SaveOp.TheVariants.{Sb, Sh, Sw}
+use Rattle.std.proofs.lemmas.List.Elements.{All-nil, All-cons}
+use Rattle.rv32_machine.specs.Memory.{BytesFit, StoresFit}
+use Rattle.rv32_machine.specs.Steps.{EffectFits}
+use Rattle.rv32_machine.specs.Registers.{AreRegisters, with_value, value_of, zeros}
+use Rattle.rv32_machine.specs.Execution.{residue, word_of, signed_of, moved, flag, reg_result, operation_of, is_taken, byte_of, loaded_byte, load_result, Effect, following, gives, links, executed, saved, written}
 
 pub residue_below : (m : ℕ) (z : ℤ) → 0 < m → residue m z < m
 residue_below m (pos n) h = mod_below n m h
@@ -70,19 +75,23 @@ with_value_keeps regs (suc n) value are within fits = record {
   words = λ i. written_below regs (suc n) value i fits are.words (omega arith);
 }
 
--- ---- Memory
+all_zero : (n number : ℕ) → get_or {A = ℕ} (replicate n 0) number 0 ≡ 0
+all_zero zero number = refl
+all_zero (suc n) zero = refl
+all_zero (suc n) (suc number) = all_zero n number
 
-pub BytesFit : (ℕ → Option ℕ) → Type 0
-BytesFit memory = (address byte : ℕ) → memory address ≡ Some byte → byte < 2 ^ 8
+pub zeros_are_registers : AreRegisters zeros
+zeros_are_registers = record { count = refl; zero_first = refl; words = λ number. (let none = all_zero 32 number in omega arith) }
+
+-- ---- Memory
 
 byte_below : (found : Option ℕ) (other : ℕ) → ((byte : ℕ) → found ≡ Some byte → byte < 2 ^ 8) → other < 2 ^ 8 → unwrap_or found other < 2 ^ 8
 byte_below None other fits h = h
 byte_below (Some byte) other fits h = fits byte refl
 
 pub loaded_byte_below : (memory : ℕ → Option ℕ) (device address i : ℕ) → BytesFit memory → loaded_byte memory device address i < 2 ^ 8
-unfolding BytesFit
 loaded_byte_below memory device address i fits =
-    byte_below (memory ((address + i) % 2 ^ 32)) (byte_of device i) (fits ((address + i) % 2 ^ 32)) (mod_below _ (2 ^ 8) (lit< tt))
+    byte_below (memory ((address + i) % 2 ^ 32)) (byte_of device i) (fits.fits ((address + i) % 2 ^ 32)) (mod_below _ (2 ^ 8) (lit< tt))
 
 pub load_result_below : (op : LoadOp) (bytes : ℕ → ℕ) → ((i : ℕ) → bytes i < 2 ^ 8) → load_result op bytes < 2 ^ 32
 load_result_below Lb bytes fits = residue_below (2 ^ 32) _ (lit< tt)
@@ -93,16 +102,29 @@ load_result_below Lhu bytes fits = omega (arith, fits 0, fits 1)
 
 -- ---- Instructions
 
--- the registers and the next address after an instruction are registers and an address
-pub record EffectFits (effect : Effect) : Type 0 where
-  pub registers_fit : AreRegisters effect.registers
-  pub next_fits : effect.next < 2 ^ 32
-
-moved_below : (word : ℕ) (by : ℤ) → moved word by < 2 ^ 32
+pub moved_below : (word : ℕ) (by : ℤ) → moved word by < 2 ^ 32
 moved_below word by = mod_below (word + word_of by) (2 ^ 32) (lit< tt)
 
-following_below : (address : ℕ) → following address < 2 ^ 32
+pub following_below : (address : ℕ) → following address < 2 ^ 32
 following_below address = mod_below (address + 4) (2 ^ 32) (lit< tt)
+
+-- nothing stored, and the bytes of a word, are bytes
+none_stored : StoresFit []
+none_stored = All-nil (λ (one : ℕ × ℕ). one.1 < 2 ^ 8)
+
+byte_of_below : (word i : ℕ) → byte_of word i < 2 ^ 8
+byte_of_below word i = mod_below (word / 2 ^ (8 * i)) (2 ^ 8) (lit< tt)
+
+one_more : (address word i : ℕ) (others : List (ℕ × ℕ)) → StoresFit others → StoresFit (written address word i ∷ others)
+one_more address word i others fits = All-cons (λ (one : ℕ × ℕ). one.1 < 2 ^ 8) (written address word i) others (byte_of_below word i) fits
+
+saved_fits : (op : SaveOp) (address word : ℕ) → StoresFit (saved op address word)
+saved_fits Sb address word = one_more address word 0 [] none_stored
+saved_fits Sh address word = one_more address word 0 (written address word 1 ∷ []) (one_more address word 1 [] none_stored)
+saved_fits Sw address word =
+    one_more address word 0 (written address word 1 ∷ written address word 2 ∷ written address word 3 ∷ [])
+    (one_more address word 1 (written address word 2 ∷ written address word 3 ∷ [])
+    (one_more address word 2 (written address word 3 ∷ []) (one_more address word 3 [] none_stored)))
 
 -- the effect that an instruction has is the one that its line gives
 of_line : (line effect : Effect) → Some line ≡ Some effect → EffectFits line → EffectFits effect
@@ -111,16 +133,17 @@ of_line line effect e fits = subst EffectFits (same_Some line effect e) fits
 gives_fits : (regs : List ℕ) (address rd value : ℕ) (effect : Effect) → AreRegisters regs → rd < 32 → value < 2 ^ 32
     → Some (gives regs address rd value) ≡ Some effect → EffectFits effect
 gives_fits regs address rd value effect are within fits e =
-    of_line (gives regs address rd value) effect e (record { registers_fit = with_value_keeps regs rd value are within fits; next_fits = following_below address })
+    of_line (gives regs address rd value) effect e (record { registers_fit = with_value_keeps regs rd value are within fits; next_fits = following_below address; stored_fit = none_stored })
 
 links_fits : (regs : List ℕ) (address rd target : ℕ) (effect : Effect) → AreRegisters regs → rd < 32 → target < 2 ^ 32
     → Some (links regs address rd target) ≡ Some effect → EffectFits effect
 links_fits regs address rd target effect are within fits e =
-    of_line (links regs address rd target) effect e (record { registers_fit = with_value_keeps regs rd (following address) are within (following_below address); next_fits = fits })
+    of_line (links regs address rd target) effect e (record { registers_fit = with_value_keeps regs rd (following address) are within (following_below address); next_fits = fits; stored_fit = none_stored })
 
-stays_fits : (line effect : Effect) (regs : List ℕ) → AreRegisters regs → line.registers ≡ regs → line.next < 2 ^ 32 → Some line ≡ Some effect → EffectFits effect
-stays_fits line effect regs are same fits e =
-    of_line line effect e (record { registers_fit = subst AreRegisters (sym same) are; next_fits = fits })
+stays_fits : (line effect : Effect) (regs : List ℕ) → AreRegisters regs → line.registers ≡ regs → line.next < 2 ^ 32 → StoresFit line.stored
+    → Some line ≡ Some effect → EffectFits effect
+stays_fits line effect regs are same fits small e =
+    of_line line effect e (record { registers_fit = subst AreRegisters (sym same) are; next_fits = fits; stored_fit = small })
 
 pub executed_keeps : (insn : Insn) (address : ℕ) (regs : List ℕ) (memory : ℕ → Option ℕ) (device : ℕ) (effect : Effect) → RegistersFit insn → AreRegisters regs
     → BytesFit memory → executed insn address regs memory device ≡ Some effect → EffectFits effect
@@ -130,14 +153,15 @@ executed_keeps (Jal rd offset) address regs memory device effect fits are bytes 
 executed_keeps (Jalr rd rs1 offset) address regs memory device effect fits are bytes e =
     links_fits regs address rd _ effect are fits.0 (omega (arith, moved_below (value_of regs rs1) offset)) e
 executed_keeps (Branch op rs1 rs2 offset) address regs memory device effect fits are bytes e =
-    stays_fits _ effect regs are refl (either_below (is_taken op (value_of regs rs1) (value_of regs rs2)) _ _ (moved_below address offset) (following_below address)) e
+    stays_fits _ effect regs are refl (either_below (is_taken op (value_of regs rs1) (value_of regs rs2)) _ _ (moved_below address offset) (following_below address)) none_stored e
 executed_keeps (Load op rd rs1 offset) address regs memory device effect fits are bytes e =
     gives_fits regs address rd _ effect are fits.0 (load_result_below op _ (λ i. loaded_byte_below memory device (moved (value_of regs rs1) offset) i bytes)) e
-executed_keeps (Save op rs1 rs2 offset) address regs memory device effect fits are bytes e = stays_fits _ effect regs are refl (following_below address) e
+executed_keeps (Save op rs1 rs2 offset) address regs memory device effect fits are bytes e =
+    stays_fits _ effect regs are refl (following_below address) (saved_fits op (moved (value_of regs rs1) offset) (value_of regs rs2)) e
 executed_keeps (Imm op rd rs1 imm) address regs memory device effect fits are bytes e =
     gives_fits regs address rd _ effect are fits.0 (reg_result_below (operation_of op) (value_of regs rs1) (word_of imm) (are.words rs1) (residue_below (2 ^ 32) imm (lit< tt))) e
 executed_keeps (Reg op rd rs1 rs2) address regs memory device effect fits are bytes e =
     gives_fits regs address rd _ effect are fits.0 (reg_result_below op (value_of regs rs1) (value_of regs rs2) (are.words rs1) (are.words rs2)) e
-executed_keeps (Fence rd rs1 imm) address regs memory device effect fits are bytes e = stays_fits _ effect regs are refl (following_below address) e
+executed_keeps (Fence rd rs1 imm) address regs memory device effect fits are bytes e = stays_fits _ effect regs are refl (following_below address) none_stored e
 executed_keeps Ecall address regs memory device effect fits are bytes e = absurd (none-some effect e)
 executed_keeps Ebreak address regs memory device effect fits are bytes e = absurd (none-some effect e)

@@ -1,2 +1,4 @@
 pub mod ExecutionLaws
 pub mod MemoryLaws
+pub mod LoadLaws
+pub mod StepLaws

@@ -147,6 +147,14 @@ gives regs address rd value = record { registers = with_value regs rd value; sto
 abbrev pub links : List ℕ → ℕ → ℕ → ℕ → Effect
 links regs address rd target = record { registers = with_value regs rd (following address); stored = []; next = target }
 
+-- the target of `jalr`, which is even
+abbrev pub jump_target : ℕ → ℤ → ℕ
+jump_target base offset = let target = moved base offset in target - target % 2
+
+-- whether the comparison of a branch holds
+abbrev pub branch_holds : BranchOp → ℕ → ℕ → List ℕ → Bool
+branch_holds op rs1 rs2 regs = is_taken op (value_of regs rs1) (value_of regs rs2)
+
 -- the effect of an instruction at an address, with the registers, the memory and the device's four
 -- bytes as one word; ECALL and EBREAK have none
 abbrev pub executed : Insn → ℕ → List ℕ → (ℕ → Option ℕ) → ℕ → Option Effect
@@ -154,9 +162,9 @@ executed (Lui rd imm) address regs memory device = Some (gives regs address rd (
 executed (Auipc rd imm) address regs memory device = Some (gives regs address rd (moved address imm))
 executed (Jal rd offset) address regs memory device = Some (links regs address rd (moved address offset))
 executed (Jalr rd rs1 offset) address regs memory device =
-    let target = moved (value_of regs rs1) offset in Some (links regs address rd (target - target % 2))
+    Some (links regs address rd (jump_target (value_of regs rs1) offset))
 executed (Branch op rs1 rs2 offset) address regs memory device =
-    let next = if is_taken op (value_of regs rs1) (value_of regs rs2) then moved address offset else following address in
+    let next = if branch_holds op rs1 rs2 regs then moved address offset else following address in
     Some (record { registers = regs; stored = []; next = next })
 executed (Load op rd rs1 offset) address regs memory device =
     let bytes = loaded_byte memory device (moved (value_of regs rs1) offset) in

@@ -1,15 +1,25 @@
 //! The execution of one instruction.
-ghost use Rattle.std.specs.Prelude.{◌≡◌, ◌+◌, ◌<◌, IsSomeAnd, None, Some, List, if◌then◌else◌};
+ghost use Rattle.std.specs.Prelude.{◌≡◌, ◌+◌, ◌<◌, ◌↔◌, IsTrue, IsSomeAnd, None, Some, List, if◌then◌else◌};
 ghost use Rattle.rv32_machine.specs.Registers.{with_value};
-ghost use Rattle.rv32_machine.specs.Execution.{executed, following, moved, loaded_byte, two_bytes, four_bytes, extended, load_result, saved, written, byte_of};
+ghost use Rattle.rv32_machine.specs.Execution.{executed, following, moved, jump_target, loaded_byte, two_bytes, four_bytes, extended, load_result, saved, written, byte_of};
 ghost use Rattle.rv32_machine.specs.Memory.{memory_of, after_stores, after_store};
 ghost use Rattle.rv32_machine.specs.Steps.{IsExecutable, HasDone, span_of};
 
-use super::arithmetic::{imm_result, is_taken, moved, reg_result, word_of};
-use super::memory_parts::Store;
-use super::next::{Next, Span};
-use super::registers::Regs;
+use crate::arithmetic::{imm_result, is_taken, moved, reg_result, word_of};
+use crate::next::{Next, Span};
+use crate::registers::Regs;
+use crate::store::Store;
 use rv32_decode::{Insn, LoadOp, RegNo, SaveOp};
+
+/// Whether the processor executes the instruction by itself: all but ECALL and EBREAK.
+pub fn is_executable(insn: &Insn) -> bool
+    ensures { IsTrue result ↔ IsExecutable insn.now }
+{
+    match insn {
+        Insn::Ecall | Insn::Ebreak => false,
+        _ => true,
+    }
+}
 
 /// Executes an instruction other than ECALL and EBREAK at the address `pc`. A byte that is loaded
 /// from an address outside the loaded memory is the byte of `device` at the same place of the load,
@@ -24,8 +34,8 @@ pub fn exec(insn: &Insn, pc: u32, regs: &mut Regs, memory: &mut Store, device: u
         Insn::Auipc { rd, imm } => give(regs, pc, rd, moved(pc, imm)),
         Insn::Jal { rd, offset } => link(regs, pc, rd, moved(pc, offset)),
         Insn::Jalr { rd, rs1, offset } => {
-            let target = moved(regs.get(rs1), offset);
-            link(regs, pc, rd, target - target % 2)
+            let target = jump_target(regs.get(rs1), offset);
+            link(regs, pc, rd, target)
         },
         Insn::Branch {
             op,
@@ -64,10 +74,19 @@ pub fn exec(insn: &Insn, pc: u32, regs: &mut Regs, memory: &mut Store, device: u
     }
 }
 
-fn following(pc: u32) -> u32
+/// The address of the next word.
+pub(crate) fn following(pc: u32) -> u32
     ensures { result ≡ following pc }
 {
     pc.wrapping_add(4)
+}
+
+/// The target of `jalr`, which is even.
+pub(crate) fn jump_target(base: u32, offset: i32) -> u32
+    ensures { result ≡ jump_target base offset }
+{
+    let target = moved(base, offset);
+    target - target % 2
 }
 
 fn go_to(address: u32) -> Next

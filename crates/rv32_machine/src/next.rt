@@ -14,3 +14,11 @@ pub struct Next {
     pub address: u32,
     pub stored: Option<Span>,
 }
+
+/// What a context's step stored, and whether it keeps the open calls: `paired` is false exactly where
+/// it is a return to another place than behind the innermost open call.
+#[derive(Clone, Copy, Debug, PartialEq, Eq)]
+pub struct Stepped {
+    pub stored: Option<Span>,
+    pub paired: bool,
+}

@@ -1,6 +1,6 @@
 //! The 32 integer registers.
 ghost use Rattle.std.specs.Prelude.{◌≡◌};
-ghost use Rattle.rv32_machine.specs.Registers.{value_of, with_value, zeros};
+ghost use Rattle.rv32_machine.specs.Registers.{AreRegisters, value_of, with_value, zeros};
 
 use rv32_decode::RegNo;
 use std::marker::Model;
@@ -13,13 +13,14 @@ pub struct Regs {
 }
 
 impl Model for Regs {
-    ghost use Rattle.std.specs.Prelude.{◌≡◌, ℕ, List, slice_index};
+    ghost use Rattle.std.specs.Prelude.{ℕ, List};
+    ghost use Rattle.rv32_machine.specs.Registers.{AreRegisters};
 
     ghost Value = { List ℕ };
 
     ghost view = { λ r. r.words };
 
-    ghost invariant = { λ r. slice_index r.words 0 ≡ 0 };
+    ghost invariant = { λ r. AreRegisters r.words };
 
     ghost inverse = { λ words. record { words = words } };
 }
@@ -30,6 +31,13 @@ impl Regs {
         ensures { result ≡ zeros }
     {
         Regs { words: [0; 32] }
+    }
+
+    /// The law that registers are 32 words, of which the first is 0.
+    pub fn are_registers(&self)
+        ensures { AreRegisters self.now }
+    {
+        let _ = &self.words;
     }
 
     /// The value of a register.

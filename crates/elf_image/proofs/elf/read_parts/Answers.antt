@@ -1,6 +1,6 @@
 use Rattle.std.proofs.Common.{◌<◌, sym, ◌∙◌, subst}
 use Rattle.std.proofs.lemmas.List.Elements.{All-same}
-use Rattle.elf_image.specs.Spans.{IsInOrder}
+use Rattle.elf_image.specs.Working.Spans.{IsInOrder}
 use Rattle.elf_image.specs.declared.headers.SectionHeader.{SectionHeader}
 use Rattle.elf_image.proofs.Verdict.{parts_without_tables, parts_from, code_is_filled}
 use Rattle.elf_image.proofs.elf.read_parts.Goals as goal

@@ -2,7 +2,7 @@ use Rattle.std.proofs.Common.{◌≡◌, true, List, take, All}
 use Rattle.std.specs.List.{list_all}
 use Rattle.std.proofs.Common.{◌<◌}
 use Rattle.elf_image.specs.Elf.{code_fits}
-use Rattle.elf_image.specs.Spans.{IsInOrder}
+use Rattle.elf_image.specs.Working.Spans.{IsInOrder}
 use Rattle.elf_image.specs.declared.headers.ProgramHeader.{ProgramHeader}
 use Rattle.elf_image.proofs.spans.all_within.Given as goal
 

@@ -1,5 +1,5 @@
 use Rattle.std.proofs.Common.{◌≡◌, filter, take}
-use Rattle.elf_image.specs.Spans.{is_filled}
+use Rattle.elf_image.specs.Working.Spans.{is_filled}
 use Rattle.elf_image.proofs.spans.filled.Given as goal
 
 abbrev pub invariant-loop-header : goal.invariant-loop-header

@@ -1,6 +1,6 @@
 use Rattle.std.proofs.Common.{◌≡◌, ◌+◌, ◌-◌, leb, get_or, take, sym, ◌∙◌, ap, arith}
 use Rattle.std.proofs.lemmas.Bool.{lt-leb, le-ltb}
-use Rattle.elf_image.specs.Spans.{reach_of}
+use Rattle.elf_image.specs.Working.Spans.{reach_of}
 use Rattle.elf_image.specs.declared.headers.ProgramHeader.{ProgramHeader}
 use Rattle.elf_image.proofs.SpanLemmas.{code_fits-in_order, within_by_reach}
 use Rattle.elf_image.proofs.spans.is_within_one.Goals as goal

@@ -1,6 +1,6 @@
 use Rattle.std.proofs.Common.{◌≡◌, false, ℕ, ◌<◌, get_or, take}
 use Rattle.elf_image.specs.Elf.{shares}
-use Rattle.elf_image.specs.Spans.{reach_of}
+use Rattle.elf_image.specs.Working.Spans.{reach_of}
 use Rattle.elf_image.specs.declared.headers.ProgramHeader.{ProgramHeader}
 use Rattle.elf_image.proofs.spans.overlapping.Given as goal
 

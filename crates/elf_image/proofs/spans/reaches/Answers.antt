@@ -2,7 +2,7 @@ use Rattle.std.proofs.Common.{◌≡◌, ◌+◌, length, get_or, take, sym, ◌
 use Rattle.std.proofs.lemmas.Bool.{cases_lt}
 use Rattle.std.proofs.lemmas.List.{length_push, get_or_push}
 use Rattle.std.proofs.Math.ListN.{get_or-append}
-use Rattle.elf_image.specs.Spans.{reach_of}
+use Rattle.elf_image.specs.Working.Spans.{reach_of}
 use Rattle.elf_image.specs.declared.headers.ProgramHeader.{ProgramHeader}
 use Rattle.elf_image.proofs.SpanLemmas.{reach_more}
 use Rattle.elf_image.proofs.spans.reaches.Goals as goal

@@ -1,5 +1,5 @@
 use Rattle.std.proofs.Common.{◌≡◌, ℕ, ◌<◌, ◌+◌, length, get_or, take}
-use Rattle.elf_image.specs.Spans.{reach_of}
+use Rattle.elf_image.specs.Working.Spans.{reach_of}
 use Rattle.elf_image.proofs.spans.reaches.Given as goal
 
 abbrev pub invariant-loop-span : goal.invariant-loop-span
