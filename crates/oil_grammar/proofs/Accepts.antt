@@ -7,7 +7,7 @@ use Rattle.std.proofs.lemmas.Bool.{false_from_ne_true}
 use Rattle.std.proofs.lemmas.List.{append-nil}
 use Rattle.std.proofs.lemmas.Slice.Eq.{bytes_eq-Decides}
 use Rattle.oil_grammar.specs.Grammar.{Block, empty, plain, braced, WrittenObject, Braces, none, some, Implementation, File, ending, value_token, block_tokens, braces_tokens, objects_tokens, skipped_tokens, implementation_tokens, cpu_tokens, file_tokens, IsNoWord, IsValue, IsBracedValue, IsBlock, IsObjectBlock, AreObjects, IsFile, attributes_of, braces_attributes, objects_of, tree_of}
-use Rattle.oil_grammar.specs.States.{with_object, with_attribute, after_part, word_value, after_value, next, run}
+use Rattle.oil_grammar.specs.Working.States.{around, with_object, object_with, after_part, word_value, after_value, next, run}
 use Rattle.oil_grammar.specs.declared.token.Token.{Token}
 use Rattle.oil_grammar.specs.declared.token.Token.TheVariants as token
 use Rattle.oil_grammar.specs.declared.tree.Value.{Value}
@@ -49,31 +49,31 @@ run_ending limit p None follow = refl
 run_ending limit p (Some d) follow = refl
 
 -- after a value that may have a block, and has none
-run_block_ending : (limit : ℕ) (tree : Tree) (object : Object) (level : ℕ) (name : List ℕ) (v : Value) (d : Option (List ℕ)) (follow : List Token) → run limit (AttributeBlock tree object level name v) (ending d follow) ≡ run limit (Attributes tree (with_attribute object level name v false) level) follow
+run_block_ending : (limit : ℕ) (tree : Tree) (object : Object) (level : ℕ) (name : List ℕ) (v : Value) (d : Option (List ℕ)) (follow : List Token) → run limit (AttributeBlock (around tree object level) name v) (ending d follow) ≡ run limit (Attributes (around tree (object_with object level name v false) level)) follow
 unfolding next run
 run_block_ending limit tree object level name v None follow = refl
 run_block_ending limit tree object level name v (Some d) follow = refl
 
-run_word : (limit : ℕ) (tree : Tree) (object : Object) (level : ℕ) (name word : List ℕ) (v : Value) (follow : List Token) → word_value word ≡ v → run limit (AttributeValue tree object level name) (token.Name word ∷ follow) ≡ run limit (after_value tree object level name v) follow
+run_word : (limit : ℕ) (tree : Tree) (object : Object) (level : ℕ) (name word : List ℕ) (v : Value) (follow : List Token) → word_value word ≡ v → run limit (AttributeValue (around tree object level) name) (token.Name word ∷ follow) ≡ run limit (after_value (around tree object level) name v) follow
 unfolding next run
-run_word limit tree object level name word v follow is = ap (λ u. run limit (after_value tree object level name u) follow) is
+run_word limit tree object level name word v follow is = ap (λ u. run limit (after_value (around tree object level) name u) follow) is
 
-run_plain : (limit : ℕ) (tree : Tree) (object : Object) (level : ℕ) (name : List ℕ) (v : Value) (d : Option (List ℕ)) (follow : List Token) → IsValue v → run limit (AttributeValue tree object level name) (value_token v ∷ ending d follow) ≡ run limit (Attributes tree (with_attribute object level name v false) level) follow
+run_plain : (limit : ℕ) (tree : Tree) (object : Object) (level : ℕ) (name : List ℕ) (v : Value) (d : Option (List ℕ)) (follow : List Token) → IsValue v → run limit (AttributeValue (around tree object level) name) (value_token v ∷ ending d follow) ≡ run limit (Attributes (around tree (object_with object level name v false) level)) follow
 unfolding next run
 run_plain limit tree object level name (value.Name word) d follow is =
     run_word limit tree object level name word (value.Name word) (ending d follow) (word_value-name word is)
     ∙ run_block_ending limit tree object level name (value.Name word) d follow
-run_plain limit tree object level name (value.Number negative size) d follow is = run_ending limit (part.Attribute tree (with_attribute object level name (value.Number negative size) false) level) d follow
-run_plain limit tree object level name (value.Text text) d follow is = run_ending limit (part.Attribute tree (with_attribute object level name (value.Text text) false) level) d follow
+run_plain limit tree object level name (value.Number negative size) d follow is = run_ending limit (part.Attribute (around tree (object_with object level name (value.Number negative size) false) level)) d follow
+run_plain limit tree object level name (value.Text text) d follow is = run_ending limit (part.Attribute (around tree (object_with object level name (value.Text text) false) level)) d follow
 run_plain limit tree object level name (value.Bool true) d follow is = run_block_ending limit tree object level name (value.Bool true) d follow
 run_plain limit tree object level name (value.Bool false) d follow is = run_block_ending limit tree object level name (value.Bool false) d follow
-run_plain limit tree object level name value.Auto d follow is = run_ending limit (part.Attribute tree (with_attribute object level name value.Auto false) level) d follow
+run_plain limit tree object level name value.Auto d follow is = run_ending limit (part.Attribute (around tree (object_with object level name value.Auto false) level)) d follow
 
-run_open : (limit : ℕ) (tree : Tree) (object : Object) (level : ℕ) (name : List ℕ) (v : Value) (follow : List Token) → level < limit → run limit (AttributeBlock tree object level name v) (token.Open ∷ follow) ≡ run limit (Attributes tree (with_attribute object level name v true) (suc level)) follow
+run_open : (limit : ℕ) (tree : Tree) (object : Object) (level : ℕ) (name : List ℕ) (v : Value) (follow : List Token) → level < limit → run limit (AttributeBlock (around tree object level) name v) (token.Open ∷ follow) ≡ run limit (Attributes (around tree (object_with object level name v true) (suc level))) follow
 unfolding next run
 run_open limit tree object level name v follow below = let yes : nat_lt level limit ≡ true = grind (arith, nat_tests) in rw yes refl
 
-run_braced : (limit : ℕ) (tree : Tree) (object : Object) (level : ℕ) (name : List ℕ) (v : Value) (follow : List Token) → IsBracedValue v → level < limit → run limit (AttributeValue tree object level name) (value_token v ∷ (token.Open ∷ follow)) ≡ run limit (Attributes tree (with_attribute object level name v true) (suc level)) follow
+run_braced : (limit : ℕ) (tree : Tree) (object : Object) (level : ℕ) (name : List ℕ) (v : Value) (follow : List Token) → IsBracedValue v → level < limit → run limit (AttributeValue (around tree object level) name) (value_token v ∷ (token.Open ∷ follow)) ≡ run limit (Attributes (around tree (object_with object level name v true) (suc level))) follow
 unfolding next run
 run_braced limit tree object level name (value.Name word) follow is below =
     run_word limit tree object level name word (value.Name word) (token.Open ∷ follow) (word_value-name word is)
@@ -84,30 +84,30 @@ run_braced limit tree object level name (value.Bool true) follow is below = run_
 run_braced limit tree object level name (value.Bool false) follow is below = run_open limit tree object level name (value.Bool false) follow below
 run_braced limit tree object level name value.Auto follow is below = absurd is
 
-run_close : (limit : ℕ) (tree : Tree) (object : Object) (level : ℕ) (d : Option (List ℕ)) (follow : List Token) → run limit (Attributes tree object (suc (suc level))) (token.Close ∷ ending d follow) ≡ run limit (Attributes tree object (suc level)) follow
+run_close : (limit : ℕ) (tree : Tree) (object : Object) (level : ℕ) (d : Option (List ℕ)) (follow : List Token) → run limit (Attributes (around tree object (suc (suc level)))) (token.Close ∷ ending d follow) ≡ run limit (Attributes (around tree object (suc level))) follow
 unfolding next run
-run_close limit tree object level d follow = run_ending limit (part.Attribute tree object (suc level)) d follow
+run_close limit tree object level d follow = run_ending limit (part.Attribute (around tree object (suc level))) d follow
 
-run_name : (limit : ℕ) (tree : Tree) (object : Object) (level : ℕ) (name : List ℕ) (follow : List Token) → run limit (Attributes tree object level) (token.Name name ∷ (token.Equals ∷ follow)) ≡ run limit (AttributeValue tree object level name) follow
+run_name : (limit : ℕ) (tree : Tree) (object : Object) (level : ℕ) (name : List ℕ) (follow : List Token) → run limit (Attributes (around tree object level)) (token.Name name ∷ (token.Equals ∷ follow)) ≡ run limit (AttributeValue (around tree object level) name) follow
 unfolding next run
 run_name limit tree object level name follow = refl
 
 -- with the attributes that a block has, one after the other
-run_block : (limit : ℕ) (tree : Tree) (object : Object) (level : ℕ) (block : Block) (follow : List Token) → IsBlock limit (suc level) block → run limit (Attributes tree object (suc level)) (block_tokens block follow) ≡ run limit (Attributes tree (adding object (attributes_of (suc level) block)) (suc level)) follow
+run_block : (limit : ℕ) (tree : Tree) (object : Object) (level : ℕ) (block : Block) (follow : List Token) → IsBlock limit (suc level) block → run limit (Attributes (around tree object (suc level))) (block_tokens block follow) ≡ run limit (Attributes (around tree (adding object (attributes_of (suc level) block)) (suc level))) follow
 unfolding block_tokens attributes_of IsBlock
-run_block limit tree object level empty follow is = ap (λ o. run limit (Attributes tree o (suc level)) follow) (sym (adding-nil object))
+run_block limit tree object level empty follow is = ap (λ o. run limit (Attributes (around tree o (suc level))) follow) (sym (adding-nil object))
 run_block limit tree object level (plain name v d others) follow is =
     run_name limit tree object (suc level) name _
     ∙ (run_plain limit tree object (suc level) name v d (block_tokens others follow) is.0
-    ∙ (run_block limit tree (with_attribute object (suc level) name v false) level others follow is.1
-    ∙ ap (λ o. run limit (Attributes tree o (suc level)) follow) (adding-twice object _ (attributes_of (suc level) others))))
+    ∙ (run_block limit tree (object_with object (suc level) name v false) level others follow is.1
+    ∙ ap (λ o. run limit (Attributes (around tree o (suc level))) follow) (adding-twice object _ (attributes_of (suc level) others))))
 run_block limit tree object level (braced name v inner d others) follow is =
     run_name limit tree object (suc level) name _
     ∙ (run_braced limit tree object (suc level) name v _ is.0 is.1
-    ∙ (run_block limit tree (with_attribute object (suc level) name v true) (suc level) inner _ is.2
+    ∙ (run_block limit tree (object_with object (suc level) name v true) (suc level) inner _ is.2
     ∙ (run_close limit tree _ level d _
     ∙ (run_block limit tree _ level others follow is.3
-    ∙ ap (λ o. run limit (Attributes tree o (suc level)) follow)
+    ∙ ap (λ o. run limit (Attributes (around tree o (suc level))) follow)
     (adding-twice _ (attributes_of (suc (suc level)) inner) (attributes_of (suc level) others)
     ∙ adding-twice object _ (attributes_of (suc (suc level)) inner ++ attributes_of (suc level) others))))))
 
@@ -118,11 +118,11 @@ unfolding next run
 run_object_ending limit tree object None follow = refl
 run_object_ending limit tree object (Some d) follow = refl
 
-run_object_open : (limit : ℕ) (tree : Tree) (object : Object) (follow : List Token) → run limit (ObjectBlock tree object) (token.Open ∷ follow) ≡ run limit (Attributes tree object 1) follow
+run_object_open : (limit : ℕ) (tree : Tree) (object : Object) (follow : List Token) → run limit (ObjectBlock tree object) (token.Open ∷ follow) ≡ run limit (Attributes (around tree object 1)) follow
 unfolding next run
 run_object_open limit tree object follow = refl
 
-run_object_close : (limit : ℕ) (tree : Tree) (object : Object) (d : Option (List ℕ)) (follow : List Token) → run limit (Attributes tree object 1) (token.Close ∷ ending d follow) ≡ run limit (Objects (with_object tree object)) follow
+run_object_close : (limit : ℕ) (tree : Tree) (object : Object) (d : Option (List ℕ)) (follow : List Token) → run limit (Attributes (around tree object 1)) (token.Close ∷ ending d follow) ≡ run limit (Objects (with_object tree object)) follow
 unfolding next run
 run_object_close limit tree object d follow = run_ending limit (part.Object tree object) d follow
 

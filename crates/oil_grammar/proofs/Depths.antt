@@ -2,7 +2,7 @@
 use Rattle.std.proofs.Common.{◌≡◌, ℕ, zero, suc, ◌+◌, ◌≤◌, Bool, true, false, cond, List, subst, Some, None, Option, arith}
 use Rattle.std.specs.Prelude.{codes, nat_lt}
 use Rattle.std.specs.Str.{bytes_eq}
-use Rattle.oil_grammar.specs.States.{when, with_attribute, after_part, after_skipped, after_block, word_value, after_value, next}
+use Rattle.oil_grammar.specs.Working.States.{around, when, object_with, after_part, after_skipped, block_end, word_value, after_value, next}
 use Rattle.oil_grammar.specs.declared.token.Token.{Token}
 use Rattle.oil_grammar.specs.declared.token.Token.TheVariants as token
 use Rattle.oil_grammar.specs.declared.tree.Value.{Value}
@@ -12,9 +12,9 @@ use Rattle.oil_grammar.specs.declared.tree.Tree.{Tree}
 use Rattle.oil_grammar.specs.declared.state.Part.{Part}
 use Rattle.oil_grammar.specs.declared.state.Part.TheVariants as part
 use Rattle.oil_grammar.specs.declared.state.State.{State}
-use Rattle.oil_grammar.specs.declared.state.State.TheVariants.{Start, VersionEquals, VersionText, Ending, Describing, Described, Head, ImplementationName, ImplementationBlock, Skipping, CpuWord, CpuName, CpuBlock, Objects, ObjectName, ObjectBlock, Attributes, AttributeEquals, AttributeValue, AttributeBlock, Finished}
+use Rattle.oil_grammar.specs.declared.state.State.TheVariants.{Start, VersionEquals, VersionText, Ending, Describing, Described, Head, ImplementationName, ImplementationBlock, Skipping, CpuWord, CpuName, CpuBlock, Objects, ObjectName, ObjectBlock, Attributes, AttributeEquals, AttributeValue, AttributeBlock}
 use Rattle.std.specs.Prelude.{IfSome}
-use Rattle.oil_grammar.specs.Reading.{depth_of}
+use Rattle.oil_grammar.specs.Working.Reading.{depth_of}
 
 when_depth : (b : Bool) (state : State) (n : ℕ) → depth_of state ≤ n → IfSome (when b state) (λ a. depth_of a ≤ n)
 when_depth true state n le = le
@@ -28,16 +28,16 @@ head_depth false false version n = tt
 part_depth : (p : Part) (n : ℕ) → depth_of (after_part p) ≤ n
 part_depth (part.Version version) n = omega arith
 part_depth (part.Implementation version) n = omega arith
-part_depth (part.Attribute tree object level) n = omega arith
+part_depth (part.Attribute a) n = omega arith
 part_depth (part.Object tree object) n = omega arith
 part_depth (part.Cpu tree) n = omega arith
 
-block_depth : (tree : Tree) (object : Object) (level n : ℕ) → depth_of (after_block tree object level) ≤ n
+block_depth : (tree : Tree) (object : Object) (level n : ℕ) → depth_of (block_end tree object level) ≤ n
 block_depth tree object zero n = omega arith
 block_depth tree object (suc zero) n = omega arith
 block_depth tree object (suc (suc level)) n = omega arith
 
-value_depth : (tree : Tree) (object : Object) (level : ℕ) (name : List ℕ) (v : Value) (n : ℕ) → depth_of (after_value tree object level name v) ≤ n
+value_depth : (tree : Tree) (object : Object) (level : ℕ) (name : List ℕ) (v : Value) (n : ℕ) → depth_of (after_value (around tree object level) name v) ≤ n
 value_depth tree object level name (value.Name word) n = omega arith
 value_depth tree object level name (value.Number negative size) n = omega arith
 value_depth tree object level name (value.Text text) n = omega arith
@@ -71,35 +71,16 @@ depth_next limit (ObjectName tree kind) (token.Name name) = omega arith
 depth_next limit (ObjectBlock tree object) token.Open = omega arith
 depth_next limit (ObjectBlock tree object) token.Colon = omega arith
 depth_next limit (ObjectBlock tree object) token.Semicolon = omega arith
-depth_next limit (Attributes tree object level) token.Close = block_depth tree object level 1
-depth_next limit (Attributes tree object level) (token.Name name) = omega arith
-depth_next limit (AttributeEquals tree object level name) token.Equals = omega arith
-depth_next limit (AttributeValue tree object level name) (token.Name word) = value_depth tree object level name (word_value word) 1
-depth_next limit (AttributeValue tree object level name) (token.Number negative size) = omega arith
-depth_next limit (AttributeValue tree object level name) (token.Text text) = omega arith
-depth_next limit (AttributeBlock tree object level name v) token.Open = when_depth (nat_lt level limit) (Attributes tree (with_attribute object level name v true) (suc level)) 1 (omega arith)
-depth_next limit (AttributeBlock tree object level name v) token.Colon = omega arith
-depth_next limit (AttributeBlock tree object level name v) token.Semicolon = omega arith
-depth_next limit (Finished tree) (token.Name name) = tt
-depth_next limit _ (token.Name name) = tt
-depth_next limit (Finished tree) (token.Number negative size) = tt
-depth_next limit _ (token.Number negative size) = tt
-depth_next limit (Finished tree) (token.Text text) = tt
-depth_next limit _ (token.Text text) = tt
-depth_next limit (Finished tree) token.Open = tt
-depth_next limit _ token.Open = tt
-depth_next limit (Finished tree) token.Close = tt
-depth_next limit _ token.Close = tt
-depth_next limit (Finished tree) token.Equals = tt
-depth_next limit _ token.Equals = tt
-depth_next limit (Finished tree) token.Semicolon = tt
-depth_next limit _ token.Semicolon = tt
-depth_next limit (Finished tree) token.Colon = tt
-depth_next limit _ token.Colon = tt
-depth_next limit (Finished tree) token.SkippedOpen = tt
-depth_next limit _ token.SkippedOpen = tt
-depth_next limit (Finished tree) token.SkippedClose = tt
-depth_next limit _ token.SkippedClose = tt
+depth_next limit (Attributes a) token.Close = block_depth a.tree a.object a.level 1
+depth_next limit (Attributes a) (token.Name name) = omega arith
+depth_next limit (AttributeEquals a name) token.Equals = omega arith
+depth_next limit (AttributeValue a name) (token.Name word) = value_depth a.tree a.object a.level name (word_value word) 1
+depth_next limit (AttributeValue a name) (token.Number negative size) = omega arith
+depth_next limit (AttributeValue a name) (token.Text text) = omega arith
+depth_next limit (AttributeBlock a name v) token.Open = when_depth (nat_lt a.level limit) (Attributes (around a.tree (object_with a.object a.level name v true) (suc a.level))) 1 (omega arith)
+depth_next limit (AttributeBlock a name v) token.Colon = omega arith
+depth_next limit (AttributeBlock a name v) token.Semicolon = omega arith
+depth_next limit _ _ = tt
 
 pub depth_after : (limit : ℕ) (state after : State) (t : Token) → next limit state t ≡ Some after → depth_of after ≤ depth_of state + 1
 depth_after limit state after t is = some_depth (next limit state t) (depth_of state + 1) after is (depth_next limit state t)

@@ -4,7 +4,7 @@ use Rattle.std.proofs.lemmas.Bool.Decides.{nat_tests}
 use Rattle.std.proofs.lemmas.Bool.{ne_eqb}
 use Rattle.oil_grammar.specs.Bytes.{first_of}
 use Rattle.oil_grammar.specs.Tokens.{after_gap, Within, between, line, opening, comment, closing, quoted, within_after, is_slash_and, is_passed}
-use Rattle.oil_grammar.specs.Gaps.{bad_at}
+use Rattle.oil_grammar.specs.Working.Gaps.{bad_at}
 use Rattle.oil_grammar.specs.declared.fault.OilKind.TheVariants.{Comment, Text}
 
 pub other_than : (b n : ℕ) → b ≢ n → eqb b n ≡ false

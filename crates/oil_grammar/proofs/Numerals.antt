@@ -1,10 +1,11 @@
 -- Digits are read from the left, and a number that has no room never gets any again.
 use Rattle.std.proofs.Common.{◌≡◌, ◌≢◌, ℕ, ◌+◌, ◌*◌, ◌^◌, ◌≤◌, ◌<◌, Bool, true, false, cond, List, [], ◌∷◌, length, refl, sym, ap, ◌∙◌, Some, None, Option, arith, ltb-false}
 use borrow.Author.Tests.{ltb-true}
-use Rattle.std.specs.Prelude.{nat_lt, if◌then◌else◌, option_and_then, MatchOption}
+use Rattle.std.specs.Prelude.{nat_lt, if◌then◌else◌, option_and_then}
 use Rattle.std.proofs.lemmas.Bool.Decides.{nat_tests}
 use Rattle.oil_grammar.specs.Bytes.{digit_of}
 use Rattle.oil_grammar.specs.Tokens.{value_after, value_of, with_room}
+use Rattle.oil_grammar.specs.Working.Reading.{ReadsDigit}
 
 abbrev radix : Bool → ℕ
 radix hexadecimal = if hexadecimal then 16 else 10
@@ -64,7 +65,7 @@ room n m is =
 pub with_room_small : (n : ℕ) → n < 2 ^ 64 → Some n ≡ with_room (Some n)
 with_room_small n below = let yes : nat_lt n (2 ^ 64) ≡ true = grind (arith, nat_tests) in rw yes refl
 
-pub digit_read : (hexadecimal : Bool) (n d b : ℕ) (r : Option ℕ) → Some d ≡ digit_of hexadecimal b → r ≡ with_room (Some (n * (if hexadecimal then 16 else 10) + d)) → MatchOption r ((tail : List ℕ) → with_room (value_after hexadecimal n (b ∷ tail)) ≡ None) (λ next. (next < 2 ^ 64) × ((tail : List ℕ) → with_room (value_after hexadecimal n (b ∷ tail)) ≡ with_room (value_after hexadecimal next tail)))
+pub digit_read : (hexadecimal : Bool) (n d b : ℕ) (r : Option ℕ) → Some d ≡ digit_of hexadecimal b → r ≡ with_room (Some (n * (if hexadecimal then 16 else 10) + d)) → ReadsDigit hexadecimal n b r
 digit_read hexadecimal n d b None is gives = λ tail. ap with_room (digit_step hexadecimal n d b (b ∷ tail) tail refl (sym is)) ∙ no_room hexadecimal (n * (if hexadecimal then 16 else 10) + d) tail (sym gives)
 digit_read hexadecimal n d b (Some next) is gives =
     let parts : (n * (if hexadecimal then 16 else 10) + d ≡ next) × (next < 2 ^ 64) = room (n * (if hexadecimal then 16 else 10) + d) next (sym gives) in

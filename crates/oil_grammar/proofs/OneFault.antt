@@ -4,9 +4,9 @@ use Rattle.oil_grammar.specs.Tokens.{First, ended, bad, found, first_in, is_skip
 use Rattle.oil_grammar.specs.Grammar.{depth_limit}
 use Rattle.oil_grammar.specs.Faults.{CanGoOn, IsComplete, GoesOnWithin, IsKindOf, FailsWith, line_of, IsFaultOf, HasTree, HasFault}
 use Rattle.oil_grammar.specs.declared.fault.OilKind.TheVariants.{Expected}
-use Rattle.oil_grammar.specs.States.{next, run, is_skipping, fault_at, tree_at}
-use Rattle.oil_grammar.specs.Reading.{Blocks}
-use Rattle.oil_grammar.specs.Advancing.{Reached}
+use Rattle.oil_grammar.specs.Working.States.{next, run, is_skipping, fault_at, tree_at}
+use Rattle.oil_grammar.specs.Working.Reading.{Blocks}
+use Rattle.oil_grammar.specs.Working.Advancing.{Reached}
 use Rattle.oil_grammar.specs.declared.fault.OilKind.{OilKind}
 use Rattle.oil_grammar.specs.declared.token.Token.{Token}
 use Rattle.oil_grammar.specs.declared.tree.Tree.{Tree}

@@ -2,7 +2,7 @@
 use Rattle.std.proofs.Common.{◌≡◌, ℕ, zero, suc, ◌+◌, ◌≤◌, ◌<◌, Bool, true, false, cond, List, [], ◌∷◌, ◌++◌, refl, sym, ap, ◌∙◌, subst, Some, None, Option, arith, lt-ltb}
 use Rattle.std.specs.Prelude.{codes, nat_lt}
 use Rattle.std.specs.Str.{bytes_eq}
-use Rattle.oil_grammar.specs.States.{when, with_attribute, after_part, after_skipped, after_block, word_value, after_value, next, run, is_skipping}
+use Rattle.oil_grammar.specs.Working.States.{around, when, object_with, after_part, after_skipped, block_end, word_value, after_value, next, run, is_skipping}
 use Rattle.oil_grammar.specs.declared.token.Token.{Token}
 use Rattle.oil_grammar.specs.declared.token.Token.TheVariants as token
 use Rattle.oil_grammar.specs.declared.tree.Value.{Value}
@@ -12,14 +12,14 @@ use Rattle.oil_grammar.specs.declared.tree.Tree.{Tree}
 use Rattle.oil_grammar.specs.declared.state.Part.{Part}
 use Rattle.oil_grammar.specs.declared.state.Part.TheVariants as part
 use Rattle.oil_grammar.specs.declared.state.State.{State}
-use Rattle.oil_grammar.specs.declared.state.State.TheVariants.{Start, VersionEquals, VersionText, Ending, Describing, Described, Head, ImplementationName, ImplementationBlock, Skipping, CpuWord, CpuName, CpuBlock, Objects, ObjectName, ObjectBlock, Attributes, AttributeEquals, AttributeValue, AttributeBlock, Finished}
+use Rattle.oil_grammar.specs.declared.state.State.TheVariants.{Start, VersionEquals, Ending, Describing, Described, Head, ImplementationName, Skipping, CpuWord, CpuName, ObjectBlock, Attributes, AttributeEquals, AttributeValue, AttributeBlock}
 use Rattle.std.specs.Prelude.{option_and_then}
 use borrow.Author.Tests.{ltb-true}
 use Rattle.std.specs.Prelude.{IfSome}
 use Rattle.oil_grammar.specs.Grammar.{depth_limit}
 use Rattle.oil_grammar.specs.Faults.{CanGoOn, GoesOnWithin, IsKindOf}
 use Rattle.oil_grammar.specs.Tokens.{is_skipped}
-use Rattle.oil_grammar.specs.States.{fault_at, PartFits, StateFits}
+use Rattle.oil_grammar.specs.Working.States.{around, fault_at, PartFits, StateFits}
 use Rattle.oil_grammar.specs.declared.fault.OilKind.TheVariants.{Expected, Depth}
 use Rattle.oil_grammar.proofs.Viable.{one_more, can_go_on, accepted, refused}
 
@@ -31,46 +31,8 @@ unfolding next
 same_mode limit (Skipping version depth) after token.SkippedOpen is = refl
 same_mode limit (Skipping version depth) after token.SkippedClose is = refl
 same_mode limit (Skipping version depth) after _ is = absurd (cc)
-same_mode limit Start after token.SkippedOpen is = absurd (cc)
-same_mode limit VersionEquals after token.SkippedOpen is = absurd (cc)
-same_mode limit VersionText after token.SkippedOpen is = absurd (cc)
-same_mode limit (Ending p) after token.SkippedOpen is = absurd (cc)
-same_mode limit (Describing p) after token.SkippedOpen is = absurd (cc)
-same_mode limit (Described p) after token.SkippedOpen is = absurd (cc)
-same_mode limit (Head version) after token.SkippedOpen is = absurd (cc)
-same_mode limit (ImplementationName version) after token.SkippedOpen is = absurd (cc)
-same_mode limit (ImplementationBlock version) after token.SkippedOpen is = absurd (cc)
-same_mode limit (CpuWord version) after token.SkippedOpen is = absurd (cc)
-same_mode limit (CpuName version) after token.SkippedOpen is = absurd (cc)
-same_mode limit (CpuBlock tree) after token.SkippedOpen is = absurd (cc)
-same_mode limit (Objects tree) after token.SkippedOpen is = absurd (cc)
-same_mode limit (ObjectName tree kind) after token.SkippedOpen is = absurd (cc)
-same_mode limit (ObjectBlock tree object) after token.SkippedOpen is = absurd (cc)
-same_mode limit (Attributes tree object level) after token.SkippedOpen is = absurd (cc)
-same_mode limit (AttributeEquals tree object level name) after token.SkippedOpen is = absurd (cc)
-same_mode limit (AttributeValue tree object level name) after token.SkippedOpen is = absurd (cc)
-same_mode limit (AttributeBlock tree object level name v) after token.SkippedOpen is = absurd (cc)
-same_mode limit (Finished tree) after token.SkippedOpen is = absurd (cc)
-same_mode limit Start after token.SkippedClose is = absurd (cc)
-same_mode limit VersionEquals after token.SkippedClose is = absurd (cc)
-same_mode limit VersionText after token.SkippedClose is = absurd (cc)
-same_mode limit (Ending p) after token.SkippedClose is = absurd (cc)
-same_mode limit (Describing p) after token.SkippedClose is = absurd (cc)
-same_mode limit (Described p) after token.SkippedClose is = absurd (cc)
-same_mode limit (Head version) after token.SkippedClose is = absurd (cc)
-same_mode limit (ImplementationName version) after token.SkippedClose is = absurd (cc)
-same_mode limit (ImplementationBlock version) after token.SkippedClose is = absurd (cc)
-same_mode limit (CpuWord version) after token.SkippedClose is = absurd (cc)
-same_mode limit (CpuName version) after token.SkippedClose is = absurd (cc)
-same_mode limit (CpuBlock tree) after token.SkippedClose is = absurd (cc)
-same_mode limit (Objects tree) after token.SkippedClose is = absurd (cc)
-same_mode limit (ObjectName tree kind) after token.SkippedClose is = absurd (cc)
-same_mode limit (ObjectBlock tree object) after token.SkippedClose is = absurd (cc)
-same_mode limit (Attributes tree object level) after token.SkippedClose is = absurd (cc)
-same_mode limit (AttributeEquals tree object level name) after token.SkippedClose is = absurd (cc)
-same_mode limit (AttributeValue tree object level name) after token.SkippedClose is = absurd (cc)
-same_mode limit (AttributeBlock tree object level name v) after token.SkippedClose is = absurd (cc)
-same_mode limit (Finished tree) after token.SkippedClose is = absurd (cc)
+same_mode limit _ after token.SkippedOpen is = absurd (cc)
+same_mode limit _ after token.SkippedClose is = absurd (cc)
 same_mode limit _ after _ is = refl
 
 skipping_goes : (state : State) (tokens : List Token) → run depth_limit Start tokens ≡ Some state → is_skipping state ≡ true → (next_token : Token) × (is_skipped next_token ≡ true) × CanGoOn depth_limit (tokens ++ next_token ∷ [])
@@ -94,7 +56,7 @@ goes_on_within state tokens is = goes_within state tokens is (is_skipping state)
 part_fits : (limit : ℕ) (p : Part) → PartFits limit p → StateFits limit (after_part p)
 part_fits limit (part.Version version) fits = tt
 part_fits limit (part.Implementation version) fits = tt
-part_fits limit (part.Attribute tree object level) fits = fits
+part_fits limit (part.Attribute a) fits = fits
 part_fits limit (part.Object tree object) fits = tt
 part_fits limit (part.Cpu tree) fits = tt
 
@@ -111,12 +73,12 @@ skipped_fits : (limit : ℕ) (version : List ℕ) (depth : ℕ) → StateFits li
 skipped_fits limit version zero = tt
 skipped_fits limit version (suc depth) = tt
 
-block_fits : (limit : ℕ) (tree : Tree) (object : Object) (level : ℕ) → level ≤ limit → StateFits limit (after_block tree object level)
+block_fits : (limit : ℕ) (tree : Tree) (object : Object) (level : ℕ) → level ≤ limit → StateFits limit (block_end tree object level)
 block_fits limit tree object zero fits = tt
 block_fits limit tree object (suc zero) fits = tt
 block_fits limit tree object (suc (suc level)) fits = omega arith
 
-value_fits : (limit : ℕ) (tree : Tree) (object : Object) (level : ℕ) (name : List ℕ) (v : Value) → level ≤ limit → StateFits limit (after_value tree object level name v)
+value_fits : (limit : ℕ) (tree : Tree) (object : Object) (level : ℕ) (name : List ℕ) (v : Value) → level ≤ limit → StateFits limit (after_value (around tree object level) name v)
 value_fits limit tree object level name (value.Name word) fits = fits
 value_fits limit tree object level name (value.Number negative size) fits = fits
 value_fits limit tree object level name (value.Text text) fits = fits
@@ -135,15 +97,15 @@ fits_next limit (Skipping version depth) token.SkippedOpen one fits = tt
 fits_next limit (Skipping version depth) token.SkippedClose one fits = skipped_fits limit version depth
 fits_next limit (CpuWord version) (token.Name name) one fits = when_fits limit (bytes_eq name (codes "CPU")) (CpuName version) (λ _. tt)
 fits_next limit (ObjectBlock tree object) token.Open one fits = one
-fits_next limit (Attributes tree object level) token.Close one fits = block_fits limit tree object level fits
-fits_next limit (Attributes tree object level) (token.Name name) one fits = fits
-fits_next limit (AttributeEquals tree object level name) token.Equals one fits = fits
-fits_next limit (AttributeValue tree object level name) (token.Name word) one fits = value_fits limit tree object level name (word_value word) fits
-fits_next limit (AttributeValue tree object level name) (token.Number negative size) one fits = fits
-fits_next limit (AttributeValue tree object level name) (token.Text text) one fits = fits
-fits_next limit (AttributeBlock tree object level name v) token.Open one fits = when_fits limit (nat_lt level limit) _ (λ is. let less : level < limit = ltb-true level limit is in omega arith)
-fits_next limit (AttributeBlock tree object level name v) token.Colon one fits = fits
-fits_next limit (AttributeBlock tree object level name v) token.Semicolon one fits = fits
+fits_next limit (Attributes a) token.Close one fits = block_fits limit a.tree a.object a.level fits
+fits_next limit (Attributes a) (token.Name name) one fits = fits
+fits_next limit (AttributeEquals a name) token.Equals one fits = fits
+fits_next limit (AttributeValue a name) (token.Name word) one fits = value_fits limit a.tree a.object a.level name (word_value word) fits
+fits_next limit (AttributeValue a name) (token.Number negative size) one fits = fits
+fits_next limit (AttributeValue a name) (token.Text text) one fits = fits
+fits_next limit (AttributeBlock a name v) token.Open one fits = when_fits limit (nat_lt a.level limit) _ (λ is. let less : a.level < limit = ltb-true a.level limit is in omega arith)
+fits_next limit (AttributeBlock a name v) token.Colon one fits = fits
+fits_next limit (AttributeBlock a name v) token.Semicolon one fits = fits
 fits_next limit _ (token.Name name) one fits = tt
 fits_next limit _ (token.Number negative size) one fits = tt
 fits_next limit _ (token.Text text) one fits = tt
@@ -185,27 +147,8 @@ higher_when limit level state after is =
 
 higher : (limit : ℕ) (state after : State) (t : Token) → next limit state t ≡ Some after → next (suc limit) state t ≡ Some after
 unfolding next
-higher limit (AttributeBlock tree object level name v) after token.Open is = higher_when limit level (Attributes tree (with_attribute object level name v true) (suc level)) after is
-higher limit (Finished tree) after (token.Name name) is = absurd (cc)
-higher limit _ after (token.Name name) is = is
-higher limit (Finished tree) after (token.Number negative size) is = absurd (cc)
-higher limit _ after (token.Number negative size) is = is
-higher limit (Finished tree) after (token.Text text) is = absurd (cc)
-higher limit _ after (token.Text text) is = is
-higher limit (Finished tree) after token.Open is = absurd (cc)
-higher limit _ after token.Open is = is
-higher limit (Finished tree) after token.Close is = absurd (cc)
-higher limit _ after token.Close is = is
-higher limit (Finished tree) after token.Equals is = absurd (cc)
-higher limit _ after token.Equals is = is
-higher limit (Finished tree) after token.Semicolon is = absurd (cc)
-higher limit _ after token.Semicolon is = is
-higher limit (Finished tree) after token.Colon is = absurd (cc)
-higher limit _ after token.Colon is = is
-higher limit (Finished tree) after token.SkippedOpen is = absurd (cc)
-higher limit _ after token.SkippedOpen is = is
-higher limit (Finished tree) after token.SkippedClose is = absurd (cc)
-higher limit _ after token.SkippedClose is = is
+higher limit (AttributeBlock a name v) after token.Open is = higher_when limit a.level (Attributes (around a.tree (object_with a.object a.level name v true) (suc a.level))) after is
+higher limit _ after _ is = is
 
 higher_after : (limit : ℕ) (after : State) (tokens : List Token) (o p : Option State) → ((s : State) → o ≡ Some s → p ≡ Some s) → ((s : State) → run limit s tokens ≡ Some after → run (suc limit) s tokens ≡ Some after) → option_and_then (λ s. run limit s tokens) o ≡ Some after → option_and_then (λ s. run (suc limit) s tokens) p ≡ Some after
 higher_after limit after tokens None p up recur is = absurd (cc)
@@ -222,65 +165,27 @@ run_higher limit state after (t ∷ tokens) is =
 -- the limit matters for no other token than a brace after a value
 same_none : (limit : ℕ) (state : State) (t : Token) → fault_at state t ≡ Expected → next limit state t ≡ None → next (suc limit) state t ≡ None
 unfolding next
-same_none limit (AttributeBlock tree object level name v) token.Open kind is = absurd (cc)
-same_none limit (Finished tree) (token.Name name) kind is = is
-same_none limit _ (token.Name name) kind is = is
-same_none limit (Finished tree) (token.Number negative size) kind is = is
-same_none limit _ (token.Number negative size) kind is = is
-same_none limit (Finished tree) (token.Text text) kind is = is
-same_none limit _ (token.Text text) kind is = is
-same_none limit (Finished tree) token.Open kind is = is
-same_none limit _ token.Open kind is = is
-same_none limit (Finished tree) token.Close kind is = is
-same_none limit _ token.Close kind is = is
-same_none limit (Finished tree) token.Equals kind is = is
-same_none limit _ token.Equals kind is = is
-same_none limit (Finished tree) token.Semicolon kind is = is
-same_none limit _ token.Semicolon kind is = is
-same_none limit (Finished tree) token.Colon kind is = is
-same_none limit _ token.Colon kind is = is
-same_none limit (Finished tree) token.SkippedOpen kind is = is
-same_none limit _ token.SkippedOpen kind is = is
-same_none limit (Finished tree) token.SkippedClose kind is = is
-same_none limit _ token.SkippedClose kind is = is
+same_none limit (AttributeBlock a name v) token.Open kind is = absurd (cc)
+same_none limit _ _ kind is = is
 
 data FaultCases (state : State) (t : Token) : Type 0 where
-  too_deep : (tree : Tree) (object : Object) (level : ℕ) (name : List ℕ) (v : Value) → state ≡ AttributeBlock tree object level name v → t ≡ token.Open → fault_at state t ≡ Depth → FaultCases state t
+  too_deep : (tree : Tree) (object : Object) (level : ℕ) (name : List ℕ) (v : Value) → state ≡ AttributeBlock (around tree object level) name v → t ≡ token.Open → fault_at state t ≡ Depth → FaultCases state t
   out_of_place : fault_at state t ≡ Expected → FaultCases state t
 
 fault_cases : (state : State) (t : Token) → FaultCases state t
-fault_cases (AttributeBlock tree object level name v) token.Open = too_deep tree object level name v refl refl refl
-fault_cases (Finished tree) (token.Name name) = out_of_place refl
-fault_cases _ (token.Name name) = out_of_place refl
-fault_cases (Finished tree) (token.Number negative size) = out_of_place refl
-fault_cases _ (token.Number negative size) = out_of_place refl
-fault_cases (Finished tree) (token.Text text) = out_of_place refl
-fault_cases _ (token.Text text) = out_of_place refl
-fault_cases (Finished tree) token.Open = out_of_place refl
-fault_cases _ token.Open = out_of_place refl
-fault_cases (Finished tree) token.Close = out_of_place refl
-fault_cases _ token.Close = out_of_place refl
-fault_cases (Finished tree) token.Equals = out_of_place refl
-fault_cases _ token.Equals = out_of_place refl
-fault_cases (Finished tree) token.Semicolon = out_of_place refl
-fault_cases _ token.Semicolon = out_of_place refl
-fault_cases (Finished tree) token.Colon = out_of_place refl
-fault_cases _ token.Colon = out_of_place refl
-fault_cases (Finished tree) token.SkippedOpen = out_of_place refl
-fault_cases _ token.SkippedOpen = out_of_place refl
-fault_cases (Finished tree) token.SkippedClose = out_of_place refl
-fault_cases _ token.SkippedClose = out_of_place refl
+fault_cases (AttributeBlock a name v) token.Open = too_deep a.tree a.object a.level name v refl refl refl
+fault_cases _ _ = out_of_place refl
 
-deeper : (limit : ℕ) (tree : Tree) (object : Object) (level : ℕ) (name : List ℕ) (v : Value) → level ≤ limit → next (suc limit) (AttributeBlock tree object level name v) token.Open ≡ Some (Attributes tree (with_attribute object level name v true) (suc level))
+deeper : (limit : ℕ) (tree : Tree) (object : Object) (level : ℕ) (name : List ℕ) (v : Value) → level ≤ limit → next (suc limit) (AttributeBlock (around tree object level) name v) token.Open ≡ Some (Attributes (around tree (object_with object level name v true) (suc level)))
 unfolding next
 deeper limit tree object level name v le = let yes : nat_lt level (suc limit) ≡ true = lt-ltb level (suc limit) (omega arith) in rw yes refl
 
 -- tokens that one more level would let go on
-too_deep_goes : (tree : Tree) (object : Object) (level : ℕ) (name : List ℕ) (v : Value) (tokens : List Token) → run depth_limit Start tokens ≡ Some (AttributeBlock tree object level name v) → CanGoOn (depth_limit + 1) (tokens ++ token.Open ∷ [])
+too_deep_goes : (tree : Tree) (object : Object) (level : ℕ) (name : List ℕ) (v : Value) (tokens : List Token) → run depth_limit Start tokens ≡ Some (AttributeBlock (around tree object level) name v) → CanGoOn (depth_limit + 1) (tokens ++ token.Open ∷ [])
 too_deep_goes tree object level name v tokens is =
-    let le : level ≤ depth_limit = run_fits depth_limit Start (AttributeBlock tree object level name v) tokens (omega arith) tt is in
-    can_go_on (suc depth_limit) (Attributes tree (with_attribute object level name v true) (suc level)) (tokens ++ token.Open ∷ [])
-    (one_more (suc depth_limit) Start (AttributeBlock tree object level name v) tokens token.Open (run_higher depth_limit Start (AttributeBlock tree object level name v) tokens is)
+    let le : level ≤ depth_limit = run_fits depth_limit Start (AttributeBlock (around tree object level) name v) tokens (omega arith) tt is in
+    can_go_on (suc depth_limit) (Attributes (around tree (object_with object level name v true) (suc level))) (tokens ++ token.Open ∷ [])
+    (one_more (suc depth_limit) Start (AttributeBlock (around tree object level) name v) tokens token.Open (run_higher depth_limit Start (AttributeBlock (around tree object level) name v) tokens is)
     ∙ deeper depth_limit tree object level name v le)
 
 pub is_kind : (state : State) (tokens : List Token) (t : Token) → run depth_limit Start tokens ≡ Some state → next depth_limit state t ≡ None → IsKindOf (fault_at state t) (tokens ++ t ∷ [])

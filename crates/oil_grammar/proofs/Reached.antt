@@ -10,9 +10,9 @@ use Rattle.oil_grammar.specs.declared.reading.Advance.TheVariants as advance
 use Rattle.oil_grammar.specs.Tokens.{ended, bad, found, first_in, is_skipped, BeginWith}
 use Rattle.oil_grammar.specs.Grammar.{IsTextOf, depth_limit}
 use Rattle.oil_grammar.specs.Faults.{IsFaultOf, line_of, HasNoTree}
-use Rattle.oil_grammar.specs.States.{run, is_skipping, tree_at}
-use Rattle.oil_grammar.specs.Reading.{Blocks, depth_of}
-use Rattle.oil_grammar.specs.Advancing.{Advances, EndsAs, Passes, Follows, Reached}
+use Rattle.oil_grammar.specs.Working.States.{run, is_skipping, tree_at}
+use Rattle.oil_grammar.specs.Working.Reading.{Blocks, depth_of}
+use Rattle.oil_grammar.specs.Working.Advancing.{Advances, EndsAs, Passes, Follows, Reached}
 use Rattle.oil_grammar.proofs.Shorter.{found_shorter}
 use Rattle.oil_grammar.proofs.Depths.{depth_after}
 use Rattle.oil_grammar.proofs.Places.{same_mode}

@@ -9,24 +9,16 @@ use Rattle.oil_grammar.specs.Tokens.{Within, between, line, opening, comment, cl
 
 -- Gaps.
 
+nothing : (left : List ℕ) (n : ℕ) → ◌≡◌ {A = Result (List ℕ) Bad} (Ok []) (Ok left) → length left ≤ n
+nothing [] n same = omega arith
+nothing (b ∷ rest) n same = absurd (cc)
+
 end_shorter : (w : Within) (left : List ℕ) (n : ℕ) → gap_at_end w ≡ Ok left → length left ≤ n
 end_shorter between left n is = nothing left n is
-  where
-    nothing : (left : List ℕ) (n : ℕ) → ◌≡◌ {A = Result (List ℕ) Bad} (Ok []) (Ok left) → length left ≤ n
-    nothing [] n same = omega arith
-    nothing (b ∷ rest) n same = absurd (cc)
 end_shorter line left n is = nothing left n is
-  where
-    nothing : (left : List ℕ) (n : ℕ) → ◌≡◌ {A = Result (List ℕ) Bad} (Ok []) (Ok left) → length left ≤ n
-    nothing [] n same = omega arith
-    nothing (b ∷ rest) n same = absurd (cc)
 end_shorter (opening from) left n is = absurd (cc)
 end_shorter (comment from) left n is = absurd (cc)
 end_shorter closing left n is = nothing left n is
-  where
-    nothing : (left : List ℕ) (n : ℕ) → ◌≡◌ {A = Result (List ℕ) Bad} (Ok []) (Ok left) → length left ≤ n
-    nothing [] n same = omega arith
-    nothing (b ∷ rest) n same = absurd (cc)
 end_shorter (quoted from) left n is = absurd (cc)
 
 onward_shorter : (o : Option Within) (bytes left : List ℕ) (n : ℕ) (go_on : Within → Result (List ℕ) Bad) → length bytes ≤ n → ((w : Within) → go_on w ≡ Ok left → length left ≤ n) → onward o bytes go_on ≡ Ok left → length left ≤ n

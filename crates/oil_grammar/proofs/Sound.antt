@@ -4,7 +4,7 @@ use Rattle.std.specs.Prelude.{codes, nat_lt}
 use Rattle.std.specs.Str.{bytes_eq}
 use Rattle.std.proofs.lemmas.Slice.Eq.{bytes_eq-Decides}
 use Rattle.oil_grammar.specs.Grammar.{Block, empty, plain, braced, WrittenObject, Braces, none, some, Implementation, File, ending, value_token, block_tokens, braces_tokens, objects_tokens, skipped_tokens, implementation_tokens, cpu_tokens, file_tokens, IsNoWord, IsValue, IsBracedValue, IsBlock, IsObjectBlock, AreObjects, IsFile, attributes_of, braces_attributes, objects_of, tree_of}
-use Rattle.oil_grammar.specs.States.{when, with_object, with_attribute, after_part, after_skipped, after_block, word_value, plainly, after_value, next, run}
+use Rattle.oil_grammar.specs.Working.States.{around, when, with_object, object_with, after_part, after_skipped, block_end, word_value, plainly, after_value, next, run}
 use Rattle.oil_grammar.specs.declared.token.Token.{Token}
 use Rattle.oil_grammar.specs.declared.token.Token.TheVariants as token
 use Rattle.oil_grammar.specs.declared.tree.Value.{Value}
@@ -150,7 +150,7 @@ skipped_back (suc fuel) limit version depth tree (_ ∷ rest) le is = absurd (cc
 
 -- Attributes.
 
-back_equals : (limit : ℕ) (tree : Tree) (object : Object) (level : ℕ) (name : List ℕ) (end : Tree) (tokens : List Token) → Ends limit (AttributeEquals tree object level name) tokens end → (rest : List Token) × (tokens ≡ token.Equals ∷ rest) × Ends limit (AttributeValue tree object level name) rest end
+back_equals : (limit : ℕ) (tree : Tree) (object : Object) (level : ℕ) (name : List ℕ) (end : Tree) (tokens : List Token) → Ends limit (AttributeEquals (around tree object level) name) tokens end → (rest : List Token) × (tokens ≡ token.Equals ∷ rest) × Ends limit (AttributeValue (around tree object level) name) rest end
 unfolding next run
 back_equals limit tree object level name end [] is = absurd (cc)
 back_equals limit tree object level name end (token.Equals ∷ rest) is = (rest, refl, is)
@@ -161,28 +161,28 @@ record PlainBack (limit : ℕ) (tree : Tree) (object : Object) (level : ℕ) (na
   description : Option (List ℕ)
   rest : List Token
   same : tokens ≡ ending description rest
-  goes : Ends limit (Attributes tree (with_attribute object level name value false) level) rest end
+  goes : Ends limit (Attributes (around tree (object_with object level name value false) level)) rest end
 
 record BracedBack (limit : ℕ) (tree : Tree) (object : Object) (level : ℕ) (name : List ℕ) (value : Value) (end : Tree) (tokens : List Token) : Type 0 where
   room : level < limit
   rest : List Token
   same : tokens ≡ token.Open ∷ rest
-  goes : Ends limit (Attributes tree (with_attribute object level name value true) (suc level)) rest end
+  goes : Ends limit (Attributes (around tree (object_with object level name value true) (suc level))) rest end
 
-back_plainly : (limit : ℕ) (tree : Tree) (object : Object) (level : ℕ) (name : List ℕ) (value : Value) (end : Tree) (tokens : List Token) → Ends limit (plainly tree object level name value) tokens end → PlainBack limit tree object level name value end tokens
+back_plainly : (limit : ℕ) (tree : Tree) (object : Object) (level : ℕ) (name : List ℕ) (value : Value) (end : Tree) (tokens : List Token) → Ends limit (plainly (around tree object level) name value) tokens end → PlainBack limit tree object level name value end tokens
 back_plainly limit tree object level name value end tokens is =
-    let back = back_ending limit (part.Attribute tree (with_attribute object level name value false) level) end tokens is in
+    let back = back_ending limit (part.Attribute (around tree (object_with object level name value false) level)) end tokens is in
     record { description = back.0; rest = back.1; same = back.2; goes = back.3 }
 
-back_block : (limit : ℕ) (tree : Tree) (object : Object) (level : ℕ) (name : List ℕ) (value : Value) (end : Tree) (tokens : List Token) → Ends limit (AttributeBlock tree object level name value) tokens end → PlainBack limit tree object level name value end tokens ⊎ BracedBack limit tree object level name value end tokens
+back_block : (limit : ℕ) (tree : Tree) (object : Object) (level : ℕ) (name : List ℕ) (value : Value) (end : Tree) (tokens : List Token) → Ends limit (AttributeBlock (around tree object level) name value) tokens end → PlainBack limit tree object level name value end tokens ⊎ BracedBack limit tree object level name value end tokens
 unfolding next run
 back_block limit tree object level name value end [] is = absurd (cc)
 back_block limit tree object level name value end (token.Semicolon ∷ rest) is = inl (record { description = None; rest = rest; same = refl; goes = is })
 back_block limit tree object level name value end (token.Colon ∷ rest) is =
-    let back = back_describing limit (part.Attribute tree (with_attribute object level name value false) level) end rest is in
+    let back = back_describing limit (part.Attribute (around tree (object_with object level name value false) level)) end rest is in
     inl (record { description = Some back.0; rest = back.1; same = ap (λ ts. token.Colon ∷ ts) back.2; goes = back.3 })
 back_block limit tree object level name value end (token.Open ∷ rest) is =
-    let parts = when_back (nat_lt level limit) (Attributes tree (with_attribute object level name value true) (suc level)) (λ s. run limit s rest) (Finished end) is in
+    let parts = when_back (nat_lt level limit) (Attributes (around tree (object_with object level name value true) (suc level))) (λ s. run limit s rest) (Finished end) is in
     inr (record { room = ltb-true level limit parts.0; rest = rest; same = refl; goes = parts.1 })
 back_block limit tree object level name value end (_ ∷ rest) is = absurd (cc)
 
@@ -213,7 +213,7 @@ record PlainValueBack (limit : ℕ) (tree : Tree) (object : Object) (level : ℕ
   description : Option (List ℕ)
   rest : List Token
   same : tokens ≡ value_token value ∷ ending description rest
-  goes : Ends limit (Attributes tree (with_attribute object level name value false) level) rest end
+  goes : Ends limit (Attributes (around tree (object_with object level name value false) level)) rest end
 
 record BracedValueBack (limit : ℕ) (tree : Tree) (object : Object) (level : ℕ) (name : List ℕ) (end : Tree) (tokens : List Token) : Type 0 where
   value : Value
@@ -221,7 +221,7 @@ record BracedValueBack (limit : ℕ) (tree : Tree) (object : Object) (level : �
   room : level < limit
   rest : List Token
   same : tokens ≡ value_token value ∷ (token.Open ∷ rest)
-  goes : Ends limit (Attributes tree (with_attribute object level name value true) (suc level)) rest end
+  goes : Ends limit (Attributes (around tree (object_with object level name value true) (suc level))) rest end
 
 plain_value : (limit : ℕ) (tree : Tree) (object : Object) (level : ℕ) (name : List ℕ) (v : Value) (end : Tree) (t : Token) (tokens : List Token) → IsValue v → t ≡ value_token v → PlainBack limit tree object level name v end tokens → PlainValueBack limit tree object level name end (t ∷ tokens)
 plain_value limit tree object level name v end t tokens is same back =
@@ -235,21 +235,21 @@ either_value : (limit : ℕ) (tree : Tree) (object : Object) (level : ℕ) (name
 either_value limit tree object level name v end t tokens plainly_is braced_is same (inl back) = inl (plain_value limit tree object level name v end t tokens plainly_is same back)
 either_value limit tree object level name v end t tokens plainly_is braced_is same (inr back) = inr (braced_value limit tree object level name v end t tokens braced_is same back)
 
-word_back : (limit : ℕ) (tree : Tree) (object : Object) (level : ℕ) (name word : List ℕ) (end : Tree) (tokens : List Token) → WordCases word → Ends limit (after_value tree object level name (word_value word)) tokens end → PlainValueBack limit tree object level name end (token.Name word ∷ tokens) ⊎ BracedValueBack limit tree object level name end (token.Name word ∷ tokens)
+word_back : (limit : ℕ) (tree : Tree) (object : Object) (level : ℕ) (name word : List ℕ) (end : Tree) (tokens : List Token) → WordCases word → Ends limit (after_value (around tree object level) name (word_value word)) tokens end → PlainValueBack limit tree object level name end (token.Name word ∷ tokens) ⊎ BracedValueBack limit tree object level name end (token.Name word ∷ tokens)
 word_back limit tree object level name word end tokens (is_true same gives) is =
     either_value limit tree object level name (value.Bool true) end (token.Name word) tokens tt tt (ap token.Name same)
-    (back_block limit tree object level name (value.Bool true) end tokens (subst (λ v. Ends limit (after_value tree object level name v) tokens end) gives is))
+    (back_block limit tree object level name (value.Bool true) end tokens (subst (λ v. Ends limit (after_value (around tree object level) name v) tokens end) gives is))
 word_back limit tree object level name word end tokens (is_false same gives) is =
     either_value limit tree object level name (value.Bool false) end (token.Name word) tokens tt tt (ap token.Name same)
-    (back_block limit tree object level name (value.Bool false) end tokens (subst (λ v. Ends limit (after_value tree object level name v) tokens end) gives is))
+    (back_block limit tree object level name (value.Bool false) end tokens (subst (λ v. Ends limit (after_value (around tree object level) name v) tokens end) gives is))
 word_back limit tree object level name word end tokens (is_auto same gives) is =
     inl (plain_value limit tree object level name value.Auto end (token.Name word) tokens tt (ap token.Name same)
-    (back_plainly limit tree object level name value.Auto end tokens (subst (λ v. Ends limit (after_value tree object level name v) tokens end) gives is)))
+    (back_plainly limit tree object level name value.Auto end tokens (subst (λ v. Ends limit (after_value (around tree object level) name v) tokens end) gives is)))
 word_back limit tree object level name word end tokens (is_name plain_name gives) is =
     either_value limit tree object level name (value.Name word) end (token.Name word) tokens plain_name plain_name refl
-    (back_block limit tree object level name (value.Name word) end tokens (subst (λ v. Ends limit (after_value tree object level name v) tokens end) gives is))
+    (back_block limit tree object level name (value.Name word) end tokens (subst (λ v. Ends limit (after_value (around tree object level) name v) tokens end) gives is))
 
-back_value : (limit : ℕ) (tree : Tree) (object : Object) (level : ℕ) (name : List ℕ) (end : Tree) (tokens : List Token) → Ends limit (AttributeValue tree object level name) tokens end → PlainValueBack limit tree object level name end tokens ⊎ BracedValueBack limit tree object level name end tokens
+back_value : (limit : ℕ) (tree : Tree) (object : Object) (level : ℕ) (name : List ℕ) (end : Tree) (tokens : List Token) → Ends limit (AttributeValue (around tree object level) name) tokens end → PlainValueBack limit tree object level name end tokens ⊎ BracedValueBack limit tree object level name end tokens
 unfolding next run
 back_value limit tree object level name end [] is = absurd (cc)
 back_value limit tree object level name end (token.Name word ∷ rest) is = word_back limit tree object level name word end rest (word_cases word) is
@@ -268,32 +268,32 @@ record BlockBack (limit : ℕ) (tree : Tree) (object : Object) (level : ℕ) (en
   is_block : IsBlock limit (suc level) block
   rest : List Token
   same : tokens ≡ block_tokens block (token.Close ∷ rest)
-  goes : Ends limit (after_block tree (adding object (attributes_of (suc level) block)) (suc level)) rest end
+  goes : Ends limit (block_end tree (adding object (attributes_of (suc level) block)) (suc level)) rest end
   shorter : length rest < length tokens
 
-empty_back : (limit : ℕ) (tree : Tree) (object : Object) (level : ℕ) (end : Tree) (rest : List Token) → Ends limit (after_block tree object (suc level)) rest end → BlockBack limit tree object level end (token.Close ∷ rest)
+empty_back : (limit : ℕ) (tree : Tree) (object : Object) (level : ℕ) (end : Tree) (rest : List Token) → Ends limit (block_end tree object (suc level)) rest end → BlockBack limit tree object level end (token.Close ∷ rest)
 unfolding block_tokens attributes_of IsBlock
 empty_back limit tree object level end rest is = record {
   block = empty;
   is_block = tt;
   rest = rest;
   same = refl;
-  goes = subst (λ o. Ends limit (after_block tree o (suc level)) rest end) (sym (adding-nil object)) is;
+  goes = subst (λ o. Ends limit (block_end tree o (suc level)) rest end) (sym (adding-nil object)) is;
   shorter = omega arith;
 }
 
-plain_back : (limit : ℕ) (tree : Tree) (object : Object) (level : ℕ) (end : Tree) (name : List ℕ) (rest : List Token) (back : PlainValueBack limit tree object (suc level) name end rest) → BlockBack limit tree (with_attribute object (suc level) name back.value false) level end back.rest → length back.rest < length rest → BlockBack limit tree object level end (token.Name name ∷ (token.Equals ∷ rest))
+plain_back : (limit : ℕ) (tree : Tree) (object : Object) (level : ℕ) (end : Tree) (name : List ℕ) (rest : List Token) (back : PlainValueBack limit tree object (suc level) name end rest) → BlockBack limit tree (object_with object (suc level) name back.value false) level end back.rest → length back.rest < length rest → BlockBack limit tree object level end (token.Name name ∷ (token.Equals ∷ rest))
 unfolding block_tokens attributes_of IsBlock
 plain_back limit tree object level end name rest back others less = record {
   block = plain name back.value back.description others.block;
   is_block = (back.is_value, others.is_block);
   rest = others.rest;
   same = ap (λ ts. token.Name name ∷ (token.Equals ∷ ts)) (back.same ∙ ap (λ ts. value_token back.value ∷ ending back.description ts) others.same);
-  goes = subst (λ o. Ends limit (after_block tree o (suc level)) others.rest end) (adding-twice object _ (attributes_of (suc level) others.block)) others.goes;
+  goes = subst (λ o. Ends limit (block_end tree o (suc level)) others.rest end) (adding-twice object _ (attributes_of (suc level) others.block)) others.goes;
   shorter = omega (arith, others.shorter);
 }
 
-braced_back : (limit : ℕ) (tree : Tree) (object : Object) (level : ℕ) (end : Tree) (name : List ℕ) (rest : List Token) (back : BracedValueBack limit tree object (suc level) name end rest) (inner : BlockBack limit tree (with_attribute object (suc level) name back.value true) (suc level) end back.rest) (d : Option (List ℕ)) (follow : List Token) → inner.rest ≡ ending d follow → BlockBack limit tree (adding (with_attribute object (suc level) name back.value true) (attributes_of (suc (suc level)) inner.block)) level end follow → length follow < length rest → BlockBack limit tree object level end (token.Name name ∷ (token.Equals ∷ rest))
+braced_back : (limit : ℕ) (tree : Tree) (object : Object) (level : ℕ) (end : Tree) (name : List ℕ) (rest : List Token) (back : BracedValueBack limit tree object (suc level) name end rest) (inner : BlockBack limit tree (object_with object (suc level) name back.value true) (suc level) end back.rest) (d : Option (List ℕ)) (follow : List Token) → inner.rest ≡ ending d follow → BlockBack limit tree (adding (object_with object (suc level) name back.value true) (attributes_of (suc (suc level)) inner.block)) level end follow → length follow < length rest → BlockBack limit tree object level end (token.Name name ∷ (token.Equals ∷ rest))
 unfolding block_tokens attributes_of IsBlock
 braced_back limit tree object level end name rest back inner d follow ends others less = record {
   block = braced name back.value inner.block d others.block;
@@ -301,7 +301,7 @@ braced_back limit tree object level end name rest back inner d follow ends other
   rest = others.rest;
   same = ap (λ ts. token.Name name ∷ (token.Equals ∷ ts)) (back.same ∙ ap (λ ts. value_token back.value ∷ (token.Open ∷ ts))
       (inner.same ∙ ap (λ ts. block_tokens inner.block (token.Close ∷ ts)) (ends ∙ ap (λ ts. ending d ts) others.same)));
-  goes = subst (λ o. Ends limit (after_block tree o (suc level)) others.rest end)
+  goes = subst (λ o. Ends limit (block_end tree o (suc level)) others.rest end)
       (adding-twice _ (attributes_of (suc (suc level)) inner.block) (attributes_of (suc level) others.block)
       ∙ adding-twice object _ (attributes_of (suc (suc level)) inner.block ++ attributes_of (suc level) others.block)) others.goes;
   shorter = omega (arith, others.shorter);
@@ -322,28 +322,28 @@ first_shorter t rest tokens same = rw same (omega arith)
 
 -- Where blocks of up to so many tokens are read back, so is an attribute with the attributes after it.
 module _ (fuel limit : ℕ) (tree end : Tree)
-    (recur : (object : Object) (level : ℕ) (tokens : List Token) → length tokens ≤ fuel → Ends limit (Attributes tree object (suc level)) tokens end → BlockBack limit tree object level end tokens) where
+    (recur : (object : Object) (level : ℕ) (tokens : List Token) → length tokens ≤ fuel → Ends limit (Attributes (around tree object (suc level))) tokens end → BlockBack limit tree object level end tokens) where
   value_back : (object : Object) (level : ℕ) (name : List ℕ) (rest : List Token) → length rest ≤ fuel → PlainValueBack limit tree object (suc level) name end rest ⊎ BracedValueBack limit tree object (suc level) name end rest → BlockBack limit tree object level end (token.Name name ∷ (token.Equals ∷ rest))
   value_back object level name rest le (inl back) =
       let less : length back.rest < length rest = plain_shorter back.value back.description back.rest rest back.same in
-      plain_back limit tree object level end name rest back (recur (with_attribute object (suc level) name back.value false) level back.rest (omega arith) back.goes) less
+      plain_back limit tree object level end name rest back (recur (object_with object (suc level) name back.value false) level back.rest (omega arith) back.goes) less
   value_back object level name rest le (inr back) =
       let less : length back.rest < length rest = braced_shorter back.value back.rest rest back.same in
-      let inner : BlockBack limit tree (with_attribute object (suc level) name back.value true) (suc level) end back.rest = recur (with_attribute object (suc level) name back.value true) (suc level) back.rest (omega arith) back.goes in
-      let after : Object = adding (with_attribute object (suc level) name back.value true) (attributes_of (suc (suc level)) inner.block) in
-      let closed = back_ending limit (part.Attribute tree after (suc level)) end inner.rest inner.goes in
+      let inner : BlockBack limit tree (object_with object (suc level) name back.value true) (suc level) end back.rest = recur (object_with object (suc level) name back.value true) (suc level) back.rest (omega arith) back.goes in
+      let after : Object = adding (object_with object (suc level) name back.value true) (attributes_of (suc (suc level)) inner.block) in
+      let closed = back_ending limit (part.Attribute (around tree after (suc level))) end inner.rest inner.goes in
       let shorter : length closed.1 < length inner.rest = ending_longer closed.0 closed.1 inner.rest closed.2 in
       let inner_shorter : length inner.rest < length back.rest = inner.shorter in
       braced_back limit tree object level end name rest back inner closed.0 closed.1 closed.2 (recur after level closed.1 (omega arith) closed.3) (omega arith)
 
-  name_back : (object : Object) (level : ℕ) (name : List ℕ) (rest : List Token) → length rest ≤ fuel → Ends limit (AttributeEquals tree object (suc level) name) rest end → BlockBack limit tree object level end (token.Name name ∷ rest)
+  name_back : (object : Object) (level : ℕ) (name : List ℕ) (rest : List Token) → length rest ≤ fuel → Ends limit (AttributeEquals (around tree object (suc level)) name) rest end → BlockBack limit tree object level end (token.Name name ∷ rest)
   name_back object level name rest le is =
       let back = back_equals limit tree object (suc level) name end rest is in
       let less : length back.0 < length rest = first_shorter token.Equals back.0 rest back.1 in
       subst (λ ts. BlockBack limit tree object level end (token.Name name ∷ ts)) (sym back.1)
       (value_back object level name back.0 (omega arith) (back_value limit tree object (suc level) name end back.0 back.2))
 
-block_back : (fuel limit : ℕ) (tree end : Tree) (object : Object) (level : ℕ) (tokens : List Token) → length tokens ≤ fuel → Ends limit (Attributes tree object (suc level)) tokens end → BlockBack limit tree object level end tokens
+block_back : (fuel limit : ℕ) (tree end : Tree) (object : Object) (level : ℕ) (tokens : List Token) → length tokens ≤ fuel → Ends limit (Attributes (around tree object (suc level))) tokens end → BlockBack limit tree object level end tokens
 unfolding next run
 block_back fuel limit tree end object level [] le is = absurd (cc)
 block_back zero limit tree end object level (t ∷ rest) le is = absurd (omega arith)

@@ -1,7 +1,7 @@
 -- A text has at most one tree, and none where something is in the way of its states.
 use Rattle.std.proofs.Common.{◌≡◌, ℕ, false, List, [], ◌∷◌, ◌++◌, length, refl, sym, ap, ◌∙◌, subst, Some, None, Option}
 use Rattle.oil_grammar.specs.Grammar.{file_tokens, tree_of}
-use Rattle.oil_grammar.specs.States.{next, run, is_skipping}
+use Rattle.oil_grammar.specs.Working.States.{next, run, is_skipping}
 use Rattle.oil_grammar.specs.declared.token.Token.{Token}
 use Rattle.oil_grammar.specs.declared.token.Token.TheVariants as token
 use Rattle.oil_grammar.specs.declared.tree.Tree.{Tree}
@@ -17,7 +17,7 @@ use Rattle.oil_grammar.proofs.Viable.{run_on, one_more, can_go_on, refused, not_
 use Rattle.oil_grammar.specs.Tokens.{is_skipped, BeginWith, AreTokensOf, First, ended, bad, found, first_in}
 use Rattle.oil_grammar.specs.Grammar.{IsTextOf}
 use Rattle.oil_grammar.specs.Faults.{IsFaultOf, FailsWith, line_of, HasNoTree}
-use Rattle.oil_grammar.specs.Reading.{Blocks}
+use Rattle.oil_grammar.specs.Working.Reading.{Blocks}
 use Rattle.oil_grammar.proofs.Places.{same_mode, goes_on_within, is_kind}
 
 -- One way to read.

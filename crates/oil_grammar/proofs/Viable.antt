@@ -2,7 +2,7 @@
 use Rattle.std.proofs.Common.{◌≡◌, ℕ, zero, suc, false, List, [], ◌∷◌, ◌++◌, refl, sym, ap, ◌∙◌, subst, Some, None, Option}
 use Rattle.std.specs.Prelude.{codes}
 use Rattle.oil_grammar.specs.Grammar.{tree_of}
-use Rattle.oil_grammar.specs.States.{with_object, with_attribute, after_part, next, run}
+use Rattle.oil_grammar.specs.Working.States.{around, with_object, object_with, after_part, next, run}
 use Rattle.oil_grammar.specs.declared.token.Token.{Token}
 use Rattle.oil_grammar.specs.declared.token.Token.TheVariants as token
 use Rattle.oil_grammar.specs.declared.tree.Value.TheVariants as value
@@ -83,7 +83,7 @@ module _ (limit : ℕ) where
   unfolding next
   head version = before limit _ (CpuName version) (token.Name (codes "CPU")) refl (cpu_name version)
 
-  attributes : (level : ℕ) (tree : Tree) (object : Object) → Completed limit (Attributes tree object level)
+  attributes : (level : ℕ) (tree : Tree) (object : Object) → Completed limit (Attributes (around tree object level))
   unfolding next
   attributes zero tree object = before limit _ _ token.Close refl (before limit _ _ token.Semicolon refl (objects (with_object tree object)))
   attributes (suc zero) tree object = before limit _ _ token.Close refl (before limit _ _ token.Semicolon refl (objects (with_object tree object)))
@@ -92,7 +92,7 @@ module _ (limit : ℕ) where
   after : (p : Part) → Completed limit (after_part p)
   after (part.Version version) = head version
   after (part.Implementation version) = cpu_word version
-  after (part.Attribute tree object level) = attributes level tree object
+  after (part.Attribute a) = attributes a.level a.tree a.object
   after (part.Object tree object) = objects (with_object tree object)
   after (part.Cpu tree) = finished tree
 
@@ -113,9 +113,9 @@ module _ (limit : ℕ) where
   unfolding next
   implementation_block version = before limit _ _ token.Open refl (skipping version 0)
 
-  value_place : (tree : Tree) (object : Object) (level : ℕ) (name : List ℕ) → Completed limit (AttributeValue tree object level name)
+  value_place : (tree : Tree) (object : Object) (level : ℕ) (name : List ℕ) → Completed limit (AttributeValue (around tree object level) name)
   unfolding next
-  value_place tree object level name = before limit _ _ (token.Text []) refl (ended (part.Attribute tree (with_attribute object level name (value.Text []) false) level))
+  value_place tree object level name = before limit _ _ (token.Text []) refl (ended (part.Attribute (around tree (object_with object level name (value.Text []) false) level)))
 
   version_text : Completed limit VersionText
   unfolding next
@@ -143,10 +143,10 @@ module _ (limit : ℕ) where
   completed (Objects tree) = objects tree
   completed (ObjectName tree kind) = before limit _ _ (token.Name (codes "O")) refl (before limit _ _ token.Semicolon refl (objects (with_object tree (record { kind = kind; name = codes "O"; attributes = [] }))))
   completed (ObjectBlock tree object) = before limit _ _ token.Semicolon refl (objects (with_object tree object))
-  completed (Attributes tree object level) = attributes level tree object
-  completed (AttributeEquals tree object level name) = before limit _ _ token.Equals refl (value_place tree object level name)
-  completed (AttributeValue tree object level name) = value_place tree object level name
-  completed (AttributeBlock tree object level name v) = before limit _ _ token.Semicolon refl (attributes level tree (with_attribute object level name v false))
+  completed (Attributes a) = attributes a.level a.tree a.object
+  completed (AttributeEquals a name) = before limit _ _ token.Equals refl (value_place a.tree a.object a.level name)
+  completed (AttributeValue a name) = value_place a.tree a.object a.level name
+  completed (AttributeBlock a name v) = before limit _ _ token.Semicolon refl (attributes a.level a.tree (object_with a.object a.level name v false))
   completed (Finished tree) = finished tree
 
 -- Tokens begin a file just where the states accept them.

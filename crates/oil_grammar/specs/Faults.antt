@@ -59,6 +59,12 @@ pub record IsFaultOf (bytes : List ℕ) (line : ℕ) (kind : OilKind) : Type 0 w
   pub fails : FailsWith tokens (first_in skips left) kind place
   pub on_line : line ≡ line_of bytes (length place)
 
+-- the text has at most one fault
+abbrev pub HasOneFault : List ℕ → Type 0
+HasOneFault bytes =
+    (line other_line : ℕ) (kind other_kind : OilKind)
+    → IsFaultOf bytes line kind → IsFaultOf bytes other_line other_kind → (line ≡ other_line) × (kind ≡ other_kind)
+
 -- some tree has the text
 abbrev pub HasTree : List ℕ → Type 0
 HasTree bytes = (tree : Tree) × IsTextOf tree bytes

@@ -2,10 +2,7 @@ pub mod Bytes
 pub mod Tokens
 pub mod Grammar
 pub mod Faults
+pub mod Kinds
 pub mod Layout
-pub mod Gaps
-pub mod Reading
-pub mod States
-pub mod Advancing
-pub mod Firsts
 pub mod Names
+pub mod Working

@@ -4,6 +4,7 @@ ghost use Rattle.std.specs.Prelude.{◌≡◌};
 ghost use Rattle.oil_grammar.specs.declared.fault.OilFault.TheVariants.{Memory as NoMemory};
 
 use listed::Memory;
+use std::fmt::{self, Display, Formatter, Write};
 use thiserror::Error;
 
 /// What is wrong at the first place at which no text can go on. A place where bytes stand that form
@@ -26,11 +27,30 @@ pub enum OilKind {
     Depth,
 }
 
+impl Display for OilKind {
+    ghost use Rattle.std.specs.Prelude.{Some};
+    ghost use Rattle.oil_grammar.specs.Kinds.{oil_word};
+
+    ghost output = { λ kind. Some (oil_word kind) };
+
+    fn fmt<W: Write>(&self, f: &mut Formatter<W>) -> fmt::Result {
+        f.write_str(match self {
+            OilKind::Byte => "Byte",
+            OilKind::Comment => "Comment",
+            OilKind::Text => "Text",
+            OilKind::Number => "Number",
+            OilKind::Expected => "Expected",
+            OilKind::Include => "Include",
+            OilKind::Depth => "Depth",
+        })
+    }
+}
+
 /// A refusal of `read_oil`.
 #[derive(Debug, Drop, Error)]
 pub enum OilFault {
     /// The text has no tree. The line counts from 1.
-    #[error("line {line}: {kind:?}")]
+    #[error("line {line}: {kind}")]
     At { line: u64, kind: OilKind },
     /// The allocator refused a growth.
     #[error("out of memory")]

@@ -2,7 +2,7 @@
 
 ghost use Rattle.std.specs.Prelude.{IfOk, Ok};
 ghost use Rattle.oil_grammar.specs.Tokens.{first_token, first_in};
-ghost use Rattle.oil_grammar.specs.Firsts.{IsFirst, StopsAt};
+ghost use Rattle.oil_grammar.specs.Working.Firsts.{IsFirst, StopsAt};
 
 use crate::fault::{OilKind, Stop};
 use crate::gap::{self, Bad};

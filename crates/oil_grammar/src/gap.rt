@@ -1,9 +1,9 @@
 //! What stands between two tokens.
 
-ghost use Rattle.std.specs.Prelude.{◌≡◌, Bool, Ok, List, ℕ, MatchOption, MatchResult, ◌==◌, ◌&&◌, ◌≤◌, length, drop};
+ghost use Rattle.std.specs.Prelude.{◌≡◌, Bool, ◌==◌, ◌&&◌, ◌≤◌, length, drop};
 ghost use Rattle.oil_grammar.specs.Bytes.{is_white, first_of};
 ghost use Rattle.oil_grammar.specs.Tokens.{after_gap, between, line, comment, quoted, is_passed, is_slash_and};
-ghost use Rattle.oil_grammar.specs.Gaps.{bad_at, PassesPiece};
+ghost use Rattle.oil_grammar.specs.Working.Gaps.{PassesPiece, PassesFrom, PassesGap};
 ghost use Rattle.oil_grammar.specs.declared.fault.OilKind.TheVariants.{Comment, Text};
 
 use crate::fault::OilKind;
@@ -44,7 +44,8 @@ pub(crate) fn first_of(bytes: &[u8]) -> u8
 
 /// What is left behind the end of the line.
 fn after_line(bytes: &[u8]) -> &[u8]
-    ensures passes { (skips : Bool) → after_gap skips line bytes.now ≡ after_gap skips between result.now }
+    ensures passes { (skips : Bool)
+        → after_gap skips line bytes.now ≡ after_gap skips between result.now }
     ensures shorter { length result.now ≤ length bytes.now }
 {
     let mut rest = bytes;
@@ -76,7 +77,7 @@ fn ends_comment(b: u8, tail: &[u8]) -> bool
 
 /// What is left behind the next `*/`.
 fn after_comment(bytes: &[u8]) -> Option<&[u8]>
-    ensures { MatchOption result ((skips : Bool) (from : List ℕ) → after_gap skips (comment from) bytes.now ≡ bad_at Comment from) (λ rest. (length rest.now ≤ length bytes.now) × ((skips : Bool) (from : List ℕ) → after_gap skips (comment from) bytes.now ≡ after_gap skips between rest.now)) }
+    ensures { PassesFrom comment Comment bytes.now result }
 {
     let mut rest = bytes;
     while let Some((first, tail)) = rest.split_first() {
@@ -90,7 +91,7 @@ fn after_comment(bytes: &[u8]) -> Option<&[u8]>
 
 /// What is left behind the next quote.
 fn after_quote(bytes: &[u8]) -> Option<&[u8]>
-    ensures { MatchOption result ((skips : Bool) (from : List ℕ) → after_gap skips (quoted from) bytes.now ≡ bad_at Text from) (λ rest. (length rest.now ≤ length bytes.now) × ((skips : Bool) (from : List ℕ) → after_gap skips (quoted from) bytes.now ≡ after_gap skips between rest.now)) }
+    ensures { PassesFrom quoted Text bytes.now result }
 {
     let mut rest = bytes;
     while let Some((first, tail)) = rest.split_first() {
@@ -154,7 +155,7 @@ fn after_piece(skips: bool, bytes: &[u8]) -> Result<Option<&[u8]>, Bad<'_>>
 /// What is left once white space and comments are passed over, or in the skipped part all up to the
 /// next brace.
 pub(crate) fn after_gap(skips: bool, bytes: &[u8]) -> Result<&[u8], Bad<'_>>
-    ensures { MatchResult result (λ rest. after_gap skips between bytes.now ≡ Ok rest.now) (λ bad. after_gap skips between bytes.now ≡ bad_at bad.kind bad.place.now) }
+    ensures { PassesGap skips bytes.now result }
 {
     let mut rest = bytes;
     while let Some(tail) = after_piece(skips, rest)? {

@@ -1,13 +1,11 @@
 //! Reading a whole text, token by token.
 
-ghost use Rattle.std.specs.Prelude.{◌≡◌, ◌⊎◌, ◌+◌, ◌<◌, ◌≤◌, ◌^◌, length, Result, Ok, Err, IfOk, IfErr, List, ℕ};
-ghost use Rattle.oil_grammar.specs.Reading.{depth_of, RoomFor};
-ghost use Rattle.oil_grammar.specs.Advancing.{Advances, EndsAs, Passes};
+ghost use Rattle.std.specs.Prelude.{◌≡◌, length, IfOk, IfErr};
+ghost use Rattle.oil_grammar.specs.Working.Reading.{RoomFor};
+ghost use Rattle.oil_grammar.specs.Working.Advancing.{Advances, EndsAs, Passes};
 ghost use Rattle.oil_grammar.specs.Grammar.{IsTextOf};
-ghost use Rattle.oil_grammar.specs.declared.tree.Tree.{Tree};
-ghost use Rattle.oil_grammar.specs.declared.fault.OilKind.{OilKind};
 ghost use Rattle.oil_grammar.specs.declared.fault.OilFault.TheVariants.{At};
-ghost use Rattle.oil_grammar.specs.Faults.{line_of, IsFaultOf, HasTree, HasFault, IsRefusalOf};
+ghost use Rattle.oil_grammar.specs.Faults.{line_of, IsRefusalOf};
 
 use crate::fault::{OilFault, OilKind, Stop};
 use crate::first::{self, First};
@@ -128,19 +126,3 @@ pub fn read_oil(alloc: Global, bytes: &[u8]) -> Result<Tree, OilFault>
         }
     }
 }
-
-/// A text has at most one tree.
-pub fn one_tree()
-    ensures { (a b : Tree) (bytes : List ℕ) → IsTextOf a bytes → IsTextOf b bytes → a ≡ b }
-{}
-
-/// A text has at most one fault.
-pub fn one_fault()
-    ensures { (bytes : List ℕ) (line other_line : ℕ) (kind other_kind : OilKind) → IsFaultOf bytes line kind → IsFaultOf bytes other_line other_kind → (line ≡ other_line) × (kind ≡ other_kind) }
-{}
-
-/// A text has a tree, or it has a fault.
-pub fn tree_or_fault()
-    ensures either { (bytes : List ℕ) → HasTree bytes ⊎ HasFault bytes }
-    ensures not_both { (bytes : List ℕ) → HasTree bytes → HasFault bytes → ⊥ }
-{}

@@ -2,10 +2,10 @@
 
 ghost use Rattle.oil_grammar.specs.declared.fault.Stop.TheVariants.{Fault};
 ghost use Rattle.oil_grammar.specs.declared.fault.OilKind.TheVariants.{Expected};
-ghost use Rattle.std.specs.Prelude.{◌≡◌, ◌≤◌, ◌<◌, ◌^◌, ◌+◌, ◌++◌, ◌∷◌, Ok, Err, List, [], ℕ, true, false, Some, is_some};
+ghost use Rattle.std.specs.Prelude.{◌≡◌, ◌<◌, ◌^◌, ◌+◌, Ok, Err, true, false, Some, is_some};
 ghost use Rattle.std.specs.Str.{bytes_eq};
-ghost use Rattle.oil_grammar.specs.Reading.{GivesState, GivesPart, GivesNext, GivesObject, MakesPart, RoomFor};
-ghost use Rattle.oil_grammar.specs.States.{tree_at, is_skipping, after_skipped, after_block, word_value, after_value, plainly, with_attribute};
+ghost use Rattle.oil_grammar.specs.Working.Reading.{GivesState, Makes, RoomFor};
+ghost use Rattle.oil_grammar.specs.Working.States.{tree_at, is_skipping, after_part, after_skipped, after_block, word_value, after_value, plainly, with_attribute, within};
 ghost use Rattle.oil_grammar.specs.declared.state.State.TheVariants as state;
 ghost use Rattle.oil_grammar.specs.declared.state.Part.TheVariants as part;
 
@@ -17,27 +17,23 @@ use std::alloc::Global;
 /// Blocks nest at most so deep, the block of an object being the first.
 const DEPTH_LIMIT: u8 = 16;
 
+/// What surrounds an attribute: the tree and the object so far, and the level of the block, 1 for the
+/// object's.
+#[derive(Debug, Drop)]
+pub(crate) struct Around {
+    tree: Tree,
+    object: Object,
+    level: u8,
+}
+
 /// A part of the text that its `;` ends, perhaps after a description.
 #[derive(Debug, Drop)]
 pub(crate) enum Part {
-    Version {
-        version: Name,
-    },
-    Implementation {
-        version: Name,
-    },
-    Attribute {
-        tree: Tree,
-        object: Object,
-        level: u8,
-    },
-    Object {
-        tree: Tree,
-        object: Object,
-    },
-    Cpu {
-        tree: Tree,
-    },
+    Version { version: Name },
+    Implementation { version: Name },
+    Attribute { around: Around },
+    Object { tree: Tree, object: Object },
+    Cpu { tree: Tree },
 }
 
 /// What has been read, up to a place between two tokens. The tree has all objects before the place,
@@ -105,31 +101,23 @@ pub(crate) enum State {
         tree: Tree,
         object: Object,
     },
-    /// Within an object, before an attribute or a `}`. The level is that of the block, 1 for the object's.
+    /// Within an object, before an attribute or a `}`.
     Attributes {
-        tree: Tree,
-        object: Object,
-        level: u8,
+        around: Around,
     },
     /// After an attribute's name.
     AttributeEquals {
-        tree: Tree,
-        object: Object,
-        level: u8,
+        around: Around,
         name: Name,
     },
     /// Before an attribute's value.
     AttributeValue {
-        tree: Tree,
-        object: Object,
-        level: u8,
+        around: Around,
         name: Name,
     },
     /// After a value that may have a block.
     AttributeBlock {
-        tree: Tree,
-        object: Object,
-        level: u8,
+        around: Around,
         name: Name,
         value: Value,
     },
@@ -155,20 +143,12 @@ fn unexpected() -> Result<State, Stop>
 impl Part {
     /// What follows the `;` of the part.
     fn after(self) -> Result<State, Stop>
-        ensures { GivesPart result self }
+        ensures { Makes result (after_part self) }
     {
         match self {
             Part::Version { version } => Ok(State::Head { version }),
             Part::Implementation { version } => Ok(State::CpuWord { version }),
-            Part::Attribute {
-                tree,
-                object,
-                level,
-            } => Ok(State::Attributes {
-                tree,
-                object,
-                level,
-            }),
+            Part::Attribute { around } => Ok(State::Attributes { around }),
             Part::Object { mut tree, object } => {
                 tree.objects.push(object)?;
                 Ok(State::Objects { tree })
@@ -178,7 +158,7 @@ impl Part {
     }
 }
 
-#[tactic(auto, unfolding(crate::specs::States::next))]
+#[tactic(auto, unfolding(crate::specs::Working::States::next))]
 fn after_start(token: Token) -> Result<State, Stop>
     ensures { GivesState result state.Start token }
 {
@@ -194,7 +174,7 @@ fn after_start(token: Token) -> Result<State, Stop>
     }
 }
 
-#[tactic(auto, unfolding(crate::specs::States::next))]
+#[tactic(auto, unfolding(crate::specs::Working::States::next))]
 fn after_version_equals(token: Token) -> Result<State, Stop>
     ensures { GivesState result state.VersionEquals token }
 {
@@ -204,7 +184,7 @@ fn after_version_equals(token: Token) -> Result<State, Stop>
     }
 }
 
-#[tactic(auto, unfolding(crate::specs::States::next))]
+#[tactic(auto, unfolding(crate::specs::Working::States::next))]
 fn after_version_text(token: Token) -> Result<State, Stop>
     ensures { GivesState result state.VersionText token }
 {
@@ -216,7 +196,7 @@ fn after_version_text(token: Token) -> Result<State, Stop>
     }
 }
 
-#[tactic(auto, unfolding(crate::specs::States::next))]
+#[tactic(auto, unfolding(crate::specs::Working::States::next))]
 fn after_ending(part: Part, token: Token) -> Result<State, Stop>
     ensures { GivesState result (state.Ending part) token }
 {
@@ -227,7 +207,7 @@ fn after_ending(part: Part, token: Token) -> Result<State, Stop>
     }
 }
 
-#[tactic(auto, unfolding(crate::specs::States::next))]
+#[tactic(auto, unfolding(crate::specs::Working::States::next))]
 fn after_describing(part: Part, token: Token) -> Result<State, Stop>
     ensures { GivesState result (state.Describing part) token }
 {
@@ -237,7 +217,7 @@ fn after_describing(part: Part, token: Token) -> Result<State, Stop>
     }
 }
 
-#[tactic(auto, unfolding(crate::specs::States::next))]
+#[tactic(auto, unfolding(crate::specs::Working::States::next))]
 fn after_described(part: Part, token: Token) -> Result<State, Stop>
     ensures { GivesState result (state.Described part) token }
 {
@@ -247,7 +227,7 @@ fn after_described(part: Part, token: Token) -> Result<State, Stop>
     }
 }
 
-#[tactic(auto, unfolding(crate::specs::States::next))]
+#[tactic(auto, unfolding(crate::specs::Working::States::next))]
 fn after_head(version: Name, token: Token) -> Result<State, Stop>
     ensures { GivesState result (state.Head version) token }
 {
@@ -265,7 +245,7 @@ fn after_head(version: Name, token: Token) -> Result<State, Stop>
     }
 }
 
-#[tactic(auto, unfolding(crate::specs::States::next))]
+#[tactic(auto, unfolding(crate::specs::Working::States::next))]
 fn after_implementation_name(version: Name, token: Token) -> Result<State, Stop>
     ensures { GivesState result (state.ImplementationName version) token }
 {
@@ -275,7 +255,7 @@ fn after_implementation_name(version: Name, token: Token) -> Result<State, Stop>
     }
 }
 
-#[tactic(auto, unfolding(crate::specs::States::next))]
+#[tactic(auto, unfolding(crate::specs::Working::States::next))]
 fn after_implementation_block(version: Name, token: Token) -> Result<State, Stop>
     ensures { GivesState result (state.ImplementationBlock version) token }
 {
@@ -285,7 +265,7 @@ fn after_implementation_block(version: Name, token: Token) -> Result<State, Stop
     }
 }
 
-#[tactic(auto, unfolding(crate::specs::States::next))]
+#[tactic(auto, unfolding(crate::specs::Working::States::next))]
 fn after_skipping(version: Name, depth: usize, token: Token) -> Result<State, Stop>
     requires { depth + 1 < 2 ^ 64 }
     ensures { GivesState result (state.Skipping version depth) token }
@@ -316,7 +296,7 @@ fn after_skipped(version: Name, depth: usize) -> State
     }
 }
 
-#[tactic(auto, unfolding(crate::specs::States::next))]
+#[tactic(auto, unfolding(crate::specs::Working::States::next))]
 fn after_cpu_word(version: Name, token: Token) -> Result<State, Stop>
     ensures { GivesState result (state.CpuWord version) token }
 {
@@ -332,7 +312,7 @@ fn after_cpu_word(version: Name, token: Token) -> Result<State, Stop>
     }
 }
 
-#[tactic(auto, unfolding(crate::specs::States::next))]
+#[tactic(auto, unfolding(crate::specs::Working::States::next))]
 fn after_cpu_name(alloc: Global, version: Name, token: Token) -> Result<State, Stop>
     ensures { GivesState result (state.CpuName version) token }
 {
@@ -348,7 +328,7 @@ fn after_cpu_name(alloc: Global, version: Name, token: Token) -> Result<State, S
     }
 }
 
-#[tactic(auto, unfolding(crate::specs::States::next))]
+#[tactic(auto, unfolding(crate::specs::Working::States::next))]
 fn after_cpu_block(tree: Tree, token: Token) -> Result<State, Stop>
     ensures { GivesState result (state.CpuBlock tree) token }
 {
@@ -358,7 +338,7 @@ fn after_cpu_block(tree: Tree, token: Token) -> Result<State, Stop>
     }
 }
 
-#[tactic(auto, unfolding(crate::specs::States::next))]
+#[tactic(auto, unfolding(crate::specs::Working::States::next))]
 fn after_objects(tree: Tree, token: Token) -> Result<State, Stop>
     ensures { GivesState result (state.Objects tree) token }
 {
@@ -371,7 +351,7 @@ fn after_objects(tree: Tree, token: Token) -> Result<State, Stop>
     }
 }
 
-#[tactic(auto, unfolding(crate::specs::States::next))]
+#[tactic(auto, unfolding(crate::specs::Working::States::next))]
 fn after_object_name(alloc: Global, tree: Tree, kind: Name, token: Token) -> Result<State, Stop>
     ensures { GivesState result (state.ObjectName tree kind) token }
 {
@@ -388,15 +368,17 @@ fn after_object_name(alloc: Global, tree: Tree, kind: Name, token: Token) -> Res
     }
 }
 
-#[tactic(auto, unfolding(crate::specs::States::next))]
+#[tactic(auto, unfolding(crate::specs::Working::States::next))]
 fn after_object_block(tree: Tree, object: Object, token: Token) -> Result<State, Stop>
     ensures { GivesState result (state.ObjectBlock tree object) token }
 {
     match token {
         Token::Open => Ok(State::Attributes {
-            tree,
-            object,
-            level: 1,
+            around: Around {
+                tree,
+                object,
+                level: 1,
+            },
         }),
         Token::Colon => Ok(State::Describing {
             part: Part::Object { tree, object },
@@ -406,69 +388,72 @@ fn after_object_block(tree: Tree, object: Object, token: Token) -> Result<State,
     }
 }
 
-/// The state behind the `}` of a block of this level.
-fn after_block(tree: Tree, object: Object, level: u8) -> State
-    ensures { result ≡ after_block tree object level }
+/// The state behind the `}` of the block.
+fn after_block(around: Around) -> State
+    ensures { result ≡ after_block around }
 {
+    let Around {
+        tree,
+        object,
+        level,
+    } = around;
     if level <= 1 {
         State::Ending {
             part: Part::Object { tree, object },
         }
     } else {
+        let around = Around {
+            tree,
+            object,
+            level: level - 1,
+        };
         State::Ending {
-            part: Part::Attribute {
-                tree,
-                object,
-                level: level - 1,
-            },
+            part: Part::Attribute { around },
         }
     }
 }
 
-#[tactic(auto, unfolding(crate::specs::States::next))]
-fn after_attributes(tree: Tree, object: Object, level: u8, token: Token) -> Result<State, Stop>
-    ensures { GivesState result (state.Attributes tree object level) token }
+#[tactic(auto, unfolding(crate::specs::Working::States::next))]
+fn after_attributes(around: Around, token: Token) -> Result<State, Stop>
+    ensures { GivesState result (state.Attributes around) token }
 {
     match token {
-        Token::Close => Ok(after_block(tree, object, level)),
-        Token::Name(name) => Ok(State::AttributeEquals {
-            tree,
-            object,
-            level,
-            name,
-        }),
+        Token::Close => Ok(after_block(around)),
+        Token::Name(name) => Ok(State::AttributeEquals { around, name }),
         _ => unexpected(),
     }
 }
 
-#[tactic(auto, unfolding(crate::specs::States::next))]
-fn after_attribute_equals(
-    tree: Tree,
-    object: Object,
-    level: u8,
-    name: Name,
-    token: Token,
-) -> Result<State, Stop>
-    ensures { GivesState result (state.AttributeEquals tree object level name) token }
+#[tactic(auto, unfolding(crate::specs::Working::States::next))]
+fn after_attribute_equals(around: Around, name: Name, token: Token) -> Result<State, Stop>
+    ensures { GivesState result (state.AttributeEquals around name) token }
 {
     match token {
-        Token::Equals => Ok(State::AttributeValue {
-            tree,
-            object,
-            level,
-            name,
-        }),
+        Token::Equals => Ok(State::AttributeValue { around, name }),
         _ => unexpected(),
     }
 }
 
-/// The object with one more attribute.
-fn with_attribute(object: Object, attribute: Attribute) -> Result<Object, Stop>
-    ensures { GivesObject result object attribute }
+/// The same with one more attribute of the object.
+fn with_attribute(around: Around, name: Name, value: Value, braces: bool) -> Result<Around, Stop>
+    ensures { Makes result (with_attribute around name value braces) }
 {
-    let mut object = object;
-    object.attributes.push(attribute)?;
-    Ok(object)
+    let Around {
+        tree,
+        mut object,
+        level,
+    } = around;
+    object.attributes.push(Attribute {
+        level,
+        name,
+        value,
+        braces,
+    })?;
+    Ok(Around {
+        tree,
+        object,
+        level,
+    })
 }
 
 /// The value that a name stands for in the place of a value.
@@ -487,135 +472,95 @@ fn word_value(name: Name) -> Value
 }
 
 /// The part that an attribute without a block makes.
-fn plain_part(tree: Tree, object: Object, level: u8, name: Name, value: Value) -> Result<Part, Stop>
-    ensures { MakesPart result (part.Attribute tree (with_attribute object level name value false) level) }
+fn plain_part(around: Around, name: Name, value: Value) -> Result<Part, Stop>
+    ensures { Makes result (part.Attribute (with_attribute around name value false)) }
 {
-    let attribute = Attribute {
-        level,
-        name,
-        value,
-        braces: false,
-    };
-    let object = with_attribute(object, attribute)?;
-    Ok(Part::Attribute {
-        tree,
-        object,
-        level,
-    })
+    let around = with_attribute(around, name, value, false)?;
+    Ok(Part::Attribute { around })
 }
 
 /// The state behind a value that no block may follow.
-fn plainly(tree: Tree, object: Object, level: u8, name: Name, value: Value) -> Result<State, Stop>
-    ensures { GivesNext result (plainly tree object level name value) }
+fn plainly(around: Around, name: Name, value: Value) -> Result<State, Stop>
+    ensures { Makes result (plainly around name value) }
 {
-    let part = plain_part(tree, object, level, name, value)?;
+    let part = plain_part(around, name, value)?;
     Ok(State::Ending { part })
 }
 
 /// The state behind a value.
-fn after_value(
-    tree: Tree,
-    object: Object,
-    level: u8,
-    name: Name,
-    value: Value,
-) -> Result<State, Stop>
-    ensures { GivesNext result (after_value tree object level name value) }
+fn after_value(around: Around, name: Name, value: Value) -> Result<State, Stop>
+    ensures { Makes result (after_value around name value) }
 {
     match value {
         Value::Name(word) => Ok(State::AttributeBlock {
-            tree,
-            object,
-            level,
+            around,
             name,
             value: Value::Name(word),
         }),
         Value::Bool(b) => Ok(State::AttributeBlock {
-            tree,
-            object,
-            level,
+            around,
             name,
             value: Value::Bool(b),
         }),
-        Value::Number { negative, size } => plainly(
-            tree,
-            object,
-            level,
-            name,
-            Value::Number { negative, size },
-        ),
-        Value::Text(text) => plainly(tree, object, level, name, Value::Text(text)),
-        Value::Auto => plainly(tree, object, level, name, Value::Auto),
+        Value::Number { negative, size } => {
+            plainly(around, name, Value::Number { negative, size })
+        }
+        Value::Text(text) => plainly(around, name, Value::Text(text)),
+        Value::Auto => plainly(around, name, Value::Auto),
     }
 }
 
-#[tactic(auto, unfolding(crate::specs::States::next))]
-fn after_attribute_value(
-    tree: Tree,
-    object: Object,
-    level: u8,
-    name: Name,
-    token: Token,
-) -> Result<State, Stop>
-    ensures { GivesState result (state.AttributeValue tree object level name) token }
+#[tactic(auto, unfolding(crate::specs::Working::States::next))]
+fn after_attribute_value(around: Around, name: Name, token: Token) -> Result<State, Stop>
+    ensures { GivesState result (state.AttributeValue around name) token }
 {
     match token {
-        Token::Name(word) => after_value(tree, object, level, name, word_value(word)),
-        Token::Number { negative, size } => plainly(
-            tree,
-            object,
-            level,
-            name,
-            Value::Number { negative, size },
-        ),
-        Token::Text(text) => plainly(tree, object, level, name, Value::Text(text)),
+        Token::Name(word) => after_value(around, name, word_value(word)),
+        Token::Number { negative, size } => {
+            plainly(around, name, Value::Number { negative, size })
+        }
+        Token::Text(text) => plainly(around, name, Value::Text(text)),
         _ => unexpected(),
     }
 }
 
 /// The state within the block of an attribute.
-fn opened(tree: Tree, object: Object, level: u8, attribute: Attribute) -> Result<State, Stop>
-    requires { level < 16 }
-    ensures { GivesNext result (state.Attributes tree (record object { attributes = object.attributes ++ attribute ∷ [] }) (level + 1)) }
+fn opened(around: Around, name: Name, value: Value) -> Result<State, Stop>
+    requires { around.level < 16 }
+    ensures { Makes result (state.Attributes (within (with_attribute around name value true))) }
 {
-    let object = with_attribute(object, attribute)?;
+    let inner = with_attribute(around, name, value, true)?;
     Ok(State::Attributes {
-        tree,
-        object,
-        level: level + 1,
+        around: Around {
+            tree: inner.tree,
+            object: inner.object,
+            level: inner.level + 1,
+        },
     })
 }
 
-#[tactic(auto, unfolding(crate::specs::States::next))]
+#[tactic(auto, unfolding(crate::specs::Working::States::next))]
 fn after_attribute_block(
-    tree: Tree,
-    object: Object,
-    level: u8,
+    around: Around,
     name: Name,
     value: Value,
     token: Token,
 ) -> Result<State, Stop>
-    ensures { GivesState result (state.AttributeBlock tree object level name value) token }
+    ensures { GivesState result (state.AttributeBlock around name value) token }
 {
     match token {
         Token::Open => {
-            if level < DEPTH_LIMIT {
-                let attribute = Attribute {
-                    level,
-                    name,
-                    value,
-                    braces: true,
-                };
-                opened(tree, object, level, attribute)
+            if around.level < DEPTH_LIMIT {
+                opened(around, name, value)
             } else {
                 Err(Stop::Fault(OilKind::Depth))
             }
         }
         Token::Colon => {
-            let part = plain_part(tree, object, level, name, value)?;
+            let part = plain_part(around, name, value)?;
             Ok(State::Describing { part })
         }
-        Token::Semicolon => plain_part(tree, object, level, name, value)?.after(),
+        Token::Semicolon => plain_part(around, name, value)?.after(),
         _ => unexpected(),
     }
 }
@@ -653,7 +598,7 @@ impl State {
     }
 
     /// The state after one more token, or what is wrong with the token.
-    #[tactic(auto, unfolding(crate::specs::States::next))]
+    #[tactic(auto, unfolding(crate::specs::Working::States::next))]
     pub(crate) fn next(self, alloc: Global, token: Token) -> Result<State, Stop>
         requires { RoomFor self }
         ensures { GivesState result self token }
@@ -675,30 +620,14 @@ impl State {
             State::Objects { tree } => after_objects(tree, token),
             State::ObjectName { tree, kind } => after_object_name(alloc, tree, kind, token),
             State::ObjectBlock { tree, object } => after_object_block(tree, object, token),
-            State::Attributes {
-                tree,
-                object,
-                level,
-            } => after_attributes(tree, object, level, token),
-            State::AttributeEquals {
-                tree,
-                object,
-                level,
-                name,
-            } => after_attribute_equals(tree, object, level, name, token),
-            State::AttributeValue {
-                tree,
-                object,
-                level,
-                name,
-            } => after_attribute_value(tree, object, level, name, token),
+            State::Attributes { around } => after_attributes(around, token),
+            State::AttributeEquals { around, name } => after_attribute_equals(around, name, token),
+            State::AttributeValue { around, name } => after_attribute_value(around, name, token),
             State::AttributeBlock {
-                tree,
-                object,
-                level,
+                around,
                 name,
                 value,
-            } => after_attribute_block(tree, object, level, name, value, token),
+            } => after_attribute_block(around, name, value, token),
             State::Finished { tree: _tree } => unexpected(),
         }
     }

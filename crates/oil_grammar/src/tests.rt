@@ -11,44 +11,25 @@ fn fault_of(alloc: Global, text: &[u8]) -> Option<(u64, OilKind)> {
     }
 }
 
+/// Texts, and the line and the kind of the fault of each.
+#[rattlefmt::skip]
+const FAULTS: [(&str, u64, OilKind); 8] = [
+    ("OIL_VERSION=\"2.5\";CPU A{#include};", 1, OilKind::Include),
+    ("OIL_VERSION = \"2.5\";\n/* CPU", 2, OilKind::Comment),
+    ("OIL_VERSION = \"2.5\";\nCPU C {", 2, OilKind::Expected),
+    ("OIL_VERSION = \"2.5\";\nCPU C {};\n;", 3, OilKind::Expected),
+    ("OIL_VERSION = \"2.5;", 1, OilKind::Text),
+    ("OIL_VERSION = \"2\"; CPU C { A B { N = 1.5; }; };", 1, OilKind::Number),
+    ("OIL_VERSION = \"2\"; CPU C { A B { N = 18446744073709551616; }; };", 1, OilKind::Number),
+    ("OIL_VERSION = \"2\"; CPU C { ? };", 1, OilKind::Byte),
+];
+
 #[test]
 fn faults_stand_at_the_first_place_that_no_text_has(rt: HostRuntime) {
-    let alloc = rt.alloc();
-    assert_eq!(rt;
-        fault_of(alloc, b"OIL_VERSION=\"2.5\";CPU A{#include};"),
-        Some((1, OilKind::Include))
-    );
-    assert_eq!(rt;
-        fault_of(alloc, b"OIL_VERSION = \"2.5\";\n/* CPU"),
-        Some((2, OilKind::Comment))
-    );
-    assert_eq!(rt;
-        fault_of(alloc, b"OIL_VERSION = \"2.5\";\nCPU C {"),
-        Some((2, OilKind::Expected))
-    );
-    assert_eq!(rt;
-        fault_of(alloc, b"OIL_VERSION = \"2.5\";\nCPU C {};\n;"),
-        Some((3, OilKind::Expected))
-    );
-    assert_eq!(rt;
-        fault_of(alloc, b"OIL_VERSION = \"2.5;"),
-        Some((1, OilKind::Text))
-    );
-    assert_eq!(rt;
-        fault_of(alloc, b"OIL_VERSION = \"2\"; CPU C { A B { N = 1.5; }; };"),
-        Some((1, OilKind::Number))
-    );
-    assert_eq!(rt;
-        fault_of(
-            alloc,
-            b"OIL_VERSION = \"2\"; CPU C { A B { N = 18446744073709551616; }; };"
-        ),
-        Some((1, OilKind::Number))
-    );
-    assert_eq!(rt;
-        fault_of(alloc, b"OIL_VERSION = \"2\"; CPU C { ? };"),
-        Some((1, OilKind::Byte))
-    );
+    for (text, line, kind) in FAULTS.iter() {
+        let fault = fault_of(rt.alloc(), text.as_bytes());
+        assert_eq!(rt; fault, Some((*line, *kind)));
+    }
 }
 
 #[test]
@@ -77,16 +58,6 @@ fn a_vendor_text_is_read(rt: HostRuntime) -> Result<(), Fail> {
     Ok(())
 }
 
-/// The lines, each with a newline.
-fn text_of(alloc: Global, lines: &[&str]) -> Result<Vec<u8>, Fail> {
-    let mut text = Vec::new(alloc);
-    for line in lines {
-        text.extend_from_slice(line.as_bytes())?;
-        text.push(b'\n')?;
-    }
-    Ok(text)
-}
-
 /// The layout of the tree of a text.
 fn written(alloc: Global, text: &[u8]) -> Result<Bytes, Fail> {
     let tree = read_oil(alloc, text).ok().ok_or("the text has a tree")?;
@@ -99,28 +70,26 @@ fn each_level_is_two_spaces_deep_and_each_object_has_braces(rt: HostRuntime) -> 
     let alloc = rt.alloc();
     let text =
         b"OIL_VERSION=\"2.5\":\"v\";IMPLEMENTATION X{{}};CPU C{TASK T{PRIORITY=10:\"p\";AUTOSTART=TRUE{APPMODE=M{NAME=\"a ; b\";};LIMIT=AUTO;};}:\"d\";COUNTER K;RESOURCE R{P=FALSE{};};};";
-    let lines = [
-        "OIL_VERSION = \"2.5\";",
-        "CPU C {",
-        "  TASK T {",
-        "    PRIORITY = 10;",
-        "    AUTOSTART = TRUE {",
-        "      APPMODE = M {",
-        "        NAME = \"a ; b\";",
-        "      };",
-        "      LIMIT = AUTO;",
-        "    };",
-        "  };",
-        "  COUNTER K {",
-        "  };",
-        "  RESOURCE R {",
-        "    P = FALSE {",
-        "    };",
-        "  };",
-        "};",
-    ];
-    let expected = text_of(alloc, &lines)?;
-    assert_eq!(rt; written(alloc, text)?.as_slice(), expected.as_slice());
+    let expected = "OIL_VERSION = \"2.5\";
+CPU C {
+  TASK T {
+    PRIORITY = 10;
+    AUTOSTART = TRUE {
+      APPMODE = M {
+        NAME = \"a ; b\";
+      };
+      LIMIT = AUTO;
+    };
+  };
+  COUNTER K {
+  };
+  RESOURCE R {
+    P = FALSE {
+    };
+  };
+};
+";
+    assert_eq!(rt; written(alloc, text)?.as_slice(), expected.as_bytes());
     Ok(())
 }
 
@@ -129,22 +98,20 @@ fn numbers_are_written_in_decimal_and_keep_their_signs(rt: HostRuntime) -> Resul
     let alloc = rt.alloc();
     let text =
         b"OIL_VERSION=\"\"; CPU C { A B { P = 0xfF; Q = -7; R = +007; S = -0; T = -0X10; U = X { V = 18446744073709551615; }; }; };";
-    let lines = [
-        "OIL_VERSION = \"\";",
-        "CPU C {",
-        "  A B {",
-        "    P = 255;",
-        "    Q = -7;",
-        "    R = 7;",
-        "    S = -0;",
-        "    T = -16;",
-        "    U = X {",
-        "      V = 18446744073709551615;",
-        "    };",
-        "  };",
-        "};",
-    ];
-    let expected = text_of(alloc, &lines)?;
-    assert_eq!(rt; written(alloc, text)?.as_slice(), expected.as_slice());
+    let expected = "OIL_VERSION = \"\";
+CPU C {
+  A B {
+    P = 255;
+    Q = -7;
+    R = 7;
+    S = -0;
+    T = -16;
+    U = X {
+      V = 18446744073709551615;
+    };
+  };
+};
+";
+    assert_eq!(rt; written(alloc, text)?.as_slice(), expected.as_bytes());
     Ok(())
 }

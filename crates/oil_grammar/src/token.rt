@@ -4,7 +4,7 @@ ghost use Rattle.std.specs.Prelude.{◌≡◌, ◌||◌, ◌&&◌, ◌==◌, Boo
 ghost use Rattle.std.specs.List.{prefix_len};
 ghost use Rattle.oil_grammar.specs.Bytes.{is_letter, is_digit, is_name_byte, is_numeral_byte, digit_of};
 ghost use Rattle.oil_grammar.specs.Tokens.{value_after, value_of, with_room, numeral, is_hexadecimal, name_at, number_at, text_at, sign_of, no_token, sign_at, skipped_at, token_at};
-ghost use Rattle.oil_grammar.specs.Reading.{GivesToken};
+ghost use Rattle.oil_grammar.specs.Working.Reading.{GivesToken, ReadsDigit};
 
 use crate::fault::{OilKind, Stop};
 use crate::gap::{behind_first, first_of};
@@ -96,7 +96,7 @@ fn with_digit(hexadecimal: bool, number: u64, digit: u8) -> Option<u64>
 
 /// The number with the digit that this byte is, if it is one and the number has room in 64 bits.
 fn read_digit(hexadecimal: bool, number: u64, b: u8) -> Option<u64>
-    ensures { MatchOption result ((tail : List ℕ) → with_room (value_after hexadecimal number (b ∷ tail)) ≡ None) (λ next. (next < 2 ^ 64) × ((tail : List ℕ) → with_room (value_after hexadecimal number (b ∷ tail)) ≡ with_room (value_after hexadecimal next tail))) }
+    ensures { ReadsDigit hexadecimal number b result }
 {
     match digit_of(hexadecimal, b) {
         Some(digit) => with_digit(hexadecimal, number, digit),

@@ -63,7 +63,8 @@ fn put_bool(out: &mut Vec<u8>, b: bool) -> Result<(), Memory>
 
 /// Appends a number.
 fn put_number(alloc: Global, out: &mut Vec<u8>, negative: bool, size: u64) -> Result<(), Memory>
-    ensures { OnOk result (out.new.items ≡ out.old.items ++ (sign_layout negative ++ decimal size)) }
+    ensures { OnOk result
+        (out.new.items ≡ out.old.items ++ (sign_layout negative ++ decimal size)) }
 {
     put_sign(out, negative)?;
     put_decimal(alloc, out, size)

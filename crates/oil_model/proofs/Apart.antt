@@ -1,15 +1,14 @@
 -- In a tree without a fault nothing stands twice that may stand once.
 use Rattle.std.proofs.Common.{◌≡◌, ℕ, Bool, true, false, List, [], ◌∷◌, ◌++◌, map, refl, sym, ap, ◌∙◌, append-nil}
-use Rattle.std.specs.Prelude.{◌||◌, ◌&&◌, not, bytes_eq}
+use Rattle.std.specs.Prelude.{◌||◌, not, bytes_eq}
 use Rattle.std.specs.List.{list_any}
 use Rattle.std.proofs.lemmas.Bool.{or_parts, or_from, and_parts, and_from, not-true, not_from_false, false_from_ne_true, both_ways}
 use Rattle.std.proofs.lemmas.List.Folds.{list_any-append}
 use Rattle.std.proofs.lemmas.Slice.Eq.{bytes_eq-Decides}
 use Rattle.oil_grammar.specs.declared.tree.Object.{Object}
 use Rattle.oil_model.specs.System.{differ}
-use Rattle.oil_model.specs.References.{is_kind, is_named}
-use Rattle.oil_model.specs.Rules.{clashes, has_code}
-use Rattle.oil_model.specs.Meaning.{names_of}
+use Rattle.oil_model.specs.References.{is_kind, of_kind}
+use Rattle.oil_model.specs.Rules.{name_set, clashes}
 
 -- ---- lists whose members differ
 
@@ -52,19 +51,21 @@ all_other_way x (y ∷ ys) none =
     let parts = or_parts (bytes_eq y x) (list_any (λ z. bytes_eq z x) ys) none in
     or_from (bytes_eq x y) (list_any (bytes_eq x) ys) (other_way y x parts.0) (all_other_way x ys parts.1)
 
--- an object of the kind can't have the other's name
-abbrev pub Excludes : List ℕ → Object → Type 0
-Excludes kind o = (e : Object) → is_kind kind e ≡ true → (is_kind o.kind e || (has_code o && has_code e)) ≡ true
+abbrev pub names_of : List ℕ → List Object → List (List ℕ)
+names_of kind objects = map (λ o. o.name) (of_kind kind objects)
 
-one_more : (kind : List ℕ) (o e : Object) → Excludes kind o → clashes o e ≡ false → (earlier : List Object) → list_any (λ n. bytes_eq n o.name) (names_of kind earlier) ≡ false → (test : Bool) → is_kind kind e ≡ test → list_any (λ n. bytes_eq n o.name) (names_of kind (e ∷ earlier)) ≡ false
-one_more kind o e excludes free earlier none false is = rw is none
-one_more kind o e excludes free earlier none true is =
+-- the names of the kind are in the object's set, and it has none of them
+unnamed_one : (kind : List ℕ) (o e : Object) → name_set o.kind ≡ name_set kind → clashes o e ≡ false → (earlier : List Object) → list_any (λ n. bytes_eq n o.name) (names_of kind earlier) ≡ false → (test : Bool) → is_kind kind e ≡ test → list_any (λ n. bytes_eq n o.name) (names_of kind (e ∷ earlier)) ≡ false
+unnamed_one kind o e set free earlier none false is = rw is none
+unnamed_one kind o e set free earlier none true is =
+    let in_set = itself (name_set o.kind) (name_set e.kind) (set ∙ ap name_set (sym (same_names e.kind kind is))) in
     let away : bytes_eq e.name o.name ≡ false =
-    false_from_ne_true (bytes_eq e.name o.name) (λ yes. both_ways (clashes o e) free (and_from (is_named o.name e) (is_kind o.kind e || (has_code o && has_code e)) yes (excludes e is))) in
+    false_from_ne_true (bytes_eq e.name o.name)
+    (λ yes. both_ways (clashes o e) free (and_from (bytes_eq (name_set o.kind) (name_set e.kind)) (bytes_eq o.name e.name) in_set (itself o.name e.name (sym (same_names e.name o.name yes))))) in
     rw is (or_from (bytes_eq e.name o.name) (list_any (λ n. bytes_eq n o.name) (names_of kind earlier)) away none)
 
-pub unnamed : (kind : List ℕ) (o : Object) → Excludes kind o → (earlier : List Object) → list_any (clashes o) earlier ≡ false → list_any (λ n. bytes_eq n o.name) (names_of kind earlier) ≡ false
-unnamed kind o excludes [] none = refl
-unnamed kind o excludes (e ∷ earlier) none =
+pub unnamed : (kind : List ℕ) (o : Object) → name_set o.kind ≡ name_set kind → (earlier : List Object) → list_any (clashes o) earlier ≡ false → list_any (λ n. bytes_eq n o.name) (names_of kind earlier) ≡ false
+unnamed kind o set [] none = refl
+unnamed kind o set (e ∷ earlier) none =
     let parts = or_parts (clashes o e) (list_any (clashes o) earlier) none in
-    one_more kind o e excludes parts.0 earlier (unnamed kind o excludes earlier parts.1) (is_kind kind e) refl
+    unnamed_one kind o e set parts.0 earlier (unnamed kind o set earlier parts.1) (is_kind kind e) refl

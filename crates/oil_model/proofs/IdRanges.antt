@@ -6,9 +6,13 @@ use Rattle.std.proofs.lemmas.Bool.{ltb-true}
 use Rattle.std.proofs.lemmas.List.Sums.{length-filter}
 use Rattle.oil_grammar.specs.declared.tree.Attribute.{Attribute}
 use Rattle.oil_grammar.specs.declared.tree.Object.{Object}
+use Rattle.oil_grammar.specs.declared.tree.Value.{Value}
+use Rattle.oil_grammar.specs.declared.tree.Value.TheVariants as value
 use Rattle.oil_model.specs.System.{scheduler, AreBelow}
-use Rattle.oil_model.specs.Attributes.{is_at, word_of}
-use Rattle.oil_model.specs.References.{is_kind, is_named, of_kind, id_of, id_in, resource_id, names_internal, shared_in, shared_at, shared_ids, mode_at, mode_ids, add_once}
+use Rattle.oil_model.specs.Attributes.{is_at}
+use Rattle.oil_model.specs.declared.reference.Target.{Target}
+use Rattle.oil_model.specs.declared.reference.Target.TheVariants.{Shared}
+use Rattle.oil_model.specs.References.{is_kind, is_named, of_kind, id_of, resource_id, names_internal, target_id, value_id, id_at, ids_of, add_once}
 
 -- ---- lists that are made one id at a time
 
@@ -48,10 +52,6 @@ id_of-below kind objects name id is = within (position_or_len (is_named name) (o
 none_is_some : {P : Type 0} (id : ℕ) → None ≡ Some id → P
 none_is_some id is = absurd cc
 
-pub id_in-below : (kind : List ℕ) (objects : List Object) (name : Option (List ℕ)) (id : ℕ) → id_in (id_of kind objects) name ≡ Some id → id < length (of_kind kind objects)
-id_in-below kind objects None id is = none_is_some id is
-id_in-below kind objects (Some name) id is = id_of-below kind objects name id is
-
 resource_id-below : (objects : List Object) (name : List ℕ) (id : ℕ) → resource_id objects name ≡ Some id → id < length (of_kind (codes "RESOURCE") objects) + 1
 resource_id-below objects name id is = at (bytes_eq name scheduler) refl
   where
@@ -65,26 +65,27 @@ resource_id-below objects name id is = at (bytes_eq name scheduler) refl
         let here : id_of (codes "RESOURCE") objects name ≡ Some id = rw named at is in
         omega (arith, id_of-below (codes "RESOURCE") objects name id here)
 
-shared_in-below : (objects : List Object) (name : Option (List ℕ)) (id : ℕ) → shared_in objects name ≡ Some id → id < length (of_kind (codes "RESOURCE") objects) + 1
-shared_in-below objects None id is = none_is_some id is
-shared_in-below objects (Some name) id is = at (names_internal objects name) refl
+pub shared-below : (objects : List Object) (name : List ℕ) (id : ℕ) → target_id objects Shared name ≡ Some id → id < length (of_kind (codes "RESOURCE") objects) + 1
+shared-below objects name id is = at (names_internal objects name) refl
   where
     at : (test : Bool) → names_internal objects name ≡ test → id < length (of_kind (codes "RESOURCE") objects) + 1
     at true internal = none_is_some id (rw internal at is)
     at false internal = resource_id-below objects name id (rw internal at is)
 
-if_at : (test : Bool) (found : Option ℕ) (id : ℕ) → cond test found None ≡ Some id → found ≡ Some id
-if_at true found id is = is
-if_at false found id is = none_is_some id is
+-- what is below n where each id that a name stands for is
+module _ (objects : List Object) (target : Target) (n : ℕ) (below : (name : List ℕ) (id : ℕ) → target_id objects target name ≡ Some id → id < n) where
+  value_id-below : (v : Value) (id : ℕ) → value_id objects target v ≡ Some id → id < n
+  value_id-below (value.Name name) id is = below name id is
+  value_id-below (value.Number negative size) id is = none_is_some id is
+  value_id-below (value.Text text) id is = none_is_some id is
+  value_id-below (value.Bool b) id is = none_is_some id is
+  value_id-below value.Auto id is = none_is_some id is
 
-pub shared_ids-below : (objects : List Object) (own : List Attribute) → AreBelow (length (of_kind (codes "RESOURCE") objects) + 1) (shared_ids objects own)
-shared_ids-below objects own =
-    all-once (λ id. id < length (of_kind (codes "RESOURCE") objects) + 1) [] (filter_map (shared_at objects) own) tt
-    (all-filter_map (λ id. id < length (of_kind (codes "RESOURCE") objects) + 1) (shared_at objects)
-    (λ a id is. shared_in-below objects (word_of a.value) id (if_at (is_at 1 (codes "RESOURCE") a) (shared_in objects (word_of a.value)) id is)) own)
+  if_at : (test : Bool) (v : Value) (id : ℕ) → cond test (value_id objects target v) None ≡ Some id → id < n
+  if_at true v id is = value_id-below v id is
+  if_at false v id is = none_is_some id is
 
-pub mode_ids-below : (objects : List Object) (block : List Attribute) → AreBelow (length (of_kind (codes "APPMODE") objects)) (mode_ids objects block)
-mode_ids-below objects block =
-    all-once (λ id. id < length (of_kind (codes "APPMODE") objects)) [] (filter_map (mode_at objects) block) tt
-    (all-filter_map (λ id. id < length (of_kind (codes "APPMODE") objects)) (mode_at objects)
-    (λ a id is. id_in-below (codes "APPMODE") objects (word_of a.value) id (if_at (is_at 2 (codes "APPMODE") a) (id_in (id_of (codes "APPMODE") objects) (word_of a.value)) id is)) block)
+  pub ids_of-below : (level : ℕ) (name : List ℕ) (attributes : List Attribute) → AreBelow n (ids_of objects target level name attributes)
+  ids_of-below level name attributes =
+      all-once (λ id. id < n) [] (filter_map (id_at objects target level name) attributes) tt
+      (all-filter_map (λ id. id < n) (id_at objects target level name) (λ a id is. if_at (is_at level name a) a.value id is) attributes)

@@ -1,13 +1,13 @@
 -- What each object without a fault keeps true of the objects so far is true of a tree without a fault.
 use Rattle.std.proofs.Common.{◌≡◌, ℕ, Bool, true, false, cond, List, [], ◌∷◌, ◌++◌, length, Option, Some, None, refl, append_assoc, append-nil}
-use Rattle.std.specs.Prelude.{◌&&◌, nat_le, codes}
+use Rattle.std.specs.Prelude.{◌&&◌, ◌||◌, nat_le, codes}
 use Rattle.std.specs.List.{list_any}
 use Rattle.std.proofs.lemmas.Bool.{or_parts}
 use Rattle.oil_grammar.specs.declared.tree.Object.{Object}
 use Rattle.oil_model.specs.declared.fault.ModelKind.{ModelKind}
 use Rattle.oil_model.specs.declared.fault.ModelKind.TheVariants.{Twice, SamePriority, Limit}
 use Rattle.oil_model.specs.References.{is_kind}
-use Rattle.oil_model.specs.Rules.{rank_of, least, fault_if, object_fault, name_fault, rule_fault, priority_fault, limit_fault, is_scheduler, clashes, shares_priority, is_past}
+use Rattle.oil_model.specs.Rules.{rank_of, least, fault_if, fault_of, object_fault, attributes_fault, inner_fault, priority_fault, limit_fault, is_scheduler, is_taken, shares_priority, is_past}
 use Rattle.oil_model.specs.Meaning.{fault_from, or_later}
 
 either_some : (test : Bool) (a b : ModelKind) → cond test (Some a) (Some b) ≡ None → ⊥
@@ -25,9 +25,8 @@ no_fault false kind is = refl
 
 -- an object that has no fault behind the earlier ones
 pub record IsSound (objects earlier : List Object) (o : Object) : Type 0 where
-  pub scheduler : is_scheduler o ≡ false
-  pub clash : list_any (clashes o) earlier ≡ false
-  pub rule : rule_fault objects o ≡ None
+  pub clash : is_taken earlier o ≡ false
+  pub rule : attributes_fault objects o ≡ None
   pub priority : (is_kind (codes "TASK") o && list_any (shares_priority o) earlier) ≡ false
   pub tasks : is_past 16 (codes "TASK") earlier o ≡ false
   pub isrs : is_past 8 (codes "ISR") earlier o ≡ false
@@ -36,19 +35,19 @@ pub record IsSound (objects earlier : List Object) (o : Object) : Type 0 where
   pub modes : is_past 4 (codes "APPMODE") earlier o ≡ false
 
 sound : (objects earlier : List Object) (o : Object) → object_fault objects earlier o ≡ None → IsSound objects earlier o
-unfolding object_fault
+unfolding fault_of
 sound objects earlier o is =
-    let named = least_none (name_fault earlier o) _ is in
-    let ruled = least_none (rule_fault objects o) _ named.1 in
-    let ranked = least_none (priority_fault earlier o) _ ruled.1 in
+    let named = least_none (fault_if (is_scheduler o || is_taken earlier o) Twice) _ is in
+    let ruled = least_none (attributes_fault objects o) _ named.1 in
+    let raised = least_none (inner_fault objects o) _ ruled.1 in
+    let ranked = least_none (priority_fault earlier o) _ raised.1 in
     let limited = least_none (limit_fault earlier o) _ ranked.1 in
-    let name = or_parts (is_scheduler o) (list_any (clashes o) earlier) (no_fault _ Twice named.0) in
+    let name = or_parts (is_scheduler o) (is_taken earlier o) (no_fault _ Twice named.0) in
     let tasks = or_parts (is_past 16 (codes "TASK") earlier o) _ (no_fault _ Limit limited.0) in
     let isrs = or_parts (is_past 8 (codes "ISR") earlier o) _ tasks.1 in
     let alarms = or_parts (is_past 16 (codes "ALARM") earlier o) _ isrs.1 in
     let resources = or_parts (is_past 8 (codes "RESOURCE") earlier o) (is_past 4 (codes "APPMODE") earlier o) alarms.1 in
     record {
-      scheduler = name.0;
       clash = name.1;
       rule = ruled.0;
       priority = no_fault _ SamePriority ranked.0;

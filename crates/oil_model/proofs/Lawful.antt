@@ -8,17 +8,19 @@ use Rattle.std.proofs.lemmas.List.Folds.{list_all-append}
 use Rattle.oil_grammar.specs.Grammar.{IsWellFormed}
 use Rattle.oil_grammar.specs.Names.{is_name, IsNamed}
 use Rattle.oil_grammar.proofs.Named.{has_names}
+use Rattle.oil_grammar.specs.declared.tree.Attribute.{Attribute}
 use Rattle.oil_grammar.specs.declared.tree.Object.{Object}
 use Rattle.oil_grammar.specs.declared.tree.Tree.{Tree}
 use Rattle.oil_model.specs.declared.system.System.{System}
-use Rattle.oil_model.specs.System.{differ, code_names, AreFew, IsTask, IsAlarm, AreNames, AreApart, IsLawful}
-use Rattle.oil_model.specs.References.{is_kind, of_kind, top_priority}
-use Rattle.oil_model.specs.Rules.{rule_fault}
-use Rattle.oil_model.specs.Meaning.{fault_from, model_fault_of, system_of, objects_system, task_of, isr_of, resource_of, alarm_of, start_block, declared_of, resources_of, names_of, scheduler_resource}
+use Rattle.oil_model.specs.System.{differ, code_names, AreBelow, AreFew, IsTask, IsAlarm, AreNames, AreApart, IsLawful}
+use Rattle.oil_model.specs.References.{is_kind, of_kind, top_priority, ids_of}
+use Rattle.oil_model.specs.declared.reference.Target.TheVariants.{Mode, Shared}
+use Rattle.oil_model.specs.Rules.{attributes_fault}
+use Rattle.oil_model.specs.Meaning.{fault_from, model_fault_of, system_of, objects_system, task_of, isr_of, resource_of, alarm_of, start_block, start_modes, resources_of, scheduler_resource}
 use Rattle.oil_model.proofs.Activations.{NamesBoth, alarm_names}
-use Rattle.oil_model.proofs.Apart.{differ-map}
+use Rattle.oil_model.proofs.Apart.{differ-map, names_of}
 use Rattle.oil_model.proofs.Counts.{few_more}
-use Rattle.oil_model.proofs.IdRanges.{all-append, shared_ids-below, mode_ids-below}
+use Rattle.oil_model.proofs.IdRanges.{all-append, id_of-below, shared-below, ids_of-below}
 use Rattle.oil_model.proofs.Kept.{IsSound, kept}
 use Rattle.oil_model.proofs.Steps.{names_step, code_names_of, code_step, same_priority, priorities_step}
 
@@ -37,7 +39,7 @@ record IsKept (objects : List Object) : Type 0 where
 
 -- the objects so far, and the rules of each
 abbrev KeptSoFar : List Object → List Object → Type 0
-KeptSoFar objects earlier = IsKept earlier × AllByRecursion (λ o. rule_fault objects o ≡ None) earlier
+KeptSoFar objects earlier = IsKept earlier × AllByRecursion (λ o. attributes_fault objects o ≡ None) earlier
 
 none_kept : IsKept []
 none_kept = record {
@@ -68,7 +70,7 @@ kept_more objects earlier o before sound = record {
 all_kept : (objects : List Object) → fault_from objects [] objects ≡ None → KeptSoFar objects objects
 all_kept objects none =
     kept objects (KeptSoFar objects)
-    (λ earlier o before sound. (kept_more objects earlier o before.0 sound, all-append (λ o. rule_fault objects o ≡ None) earlier (o ∷ []) before.1 (sound.rule, tt)))
+    (λ earlier o before sound. (kept_more objects earlier o before.0 sound, all-append (λ o. attributes_fault objects o ≡ None) earlier (o ∷ []) before.1 (sound.rule, tt)))
     [] objects (none_kept, tt) none
 
 -- ---- lists that are made of the objects of a kind
@@ -104,7 +106,7 @@ code_names_same : (objects : List Object) → code_names (objects_system objects
 code_names_same objects =
     rw (
       made_names (task_of objects) (λ t. t.name) (λ o. refl) (of_kind (codes "TASK") objects),
-      made_names isr_of (λ i. i.name) (λ o. refl) (of_kind (codes "ISR") objects),
+      made_names (isr_of objects) (λ i. i.name) (λ o. refl) (of_kind (codes "ISR") objects),
       made_names (alarm_of objects) (λ a. a.name) (λ o. refl) (of_kind (codes "ALARM") objects),
     ) refl
 
@@ -112,7 +114,7 @@ code_names_same objects =
 
 resources_length : (objects : List Object) → length (resources_of objects) ≡ length (of_kind (codes "RESOURCE") objects) + 1
 resources_length objects =
-    length-append (declared_of objects objects) (scheduler_resource (top_priority objects) ∷ []) ∙ ap (λ n. n + 1) (length-map (of_kind (codes "RESOURCE") objects) (resource_of objects))
+    length-append (map (resource_of objects) (of_kind (codes "RESOURCE") objects)) (scheduler_resource (top_priority objects) ∷ []) ∙ ap (λ n. n + 1) (length-map (of_kind (codes "RESOURCE") objects) (resource_of objects))
 
 names_length : (kind : List ℕ) (objects : List Object) → length (names_of kind objects) ≡ length (of_kind kind objects)
 names_length kind objects = length-map (of_kind kind objects) (λ o. o.name)
@@ -120,23 +122,29 @@ names_length kind objects = length-map (of_kind kind objects) (λ o. o.name)
 are_few : (objects : List Object) → IsKept objects → AreFew (objects_system objects)
 are_few objects is = record {
   tasks = rw (length-map (of_kind (codes "TASK") objects) (task_of objects)) is.tasks;
-  isrs = rw (length-map (of_kind (codes "ISR") objects) isr_of) is.isrs;
+  isrs = rw (length-map (of_kind (codes "ISR") objects) (isr_of objects)) is.isrs;
   resources = rw (resources_length objects) (let most = is.resources in omega arith);
   alarms = rw (length-map (of_kind (codes "ALARM") objects) (alarm_of objects)) is.alarms;
   modes = rw (names_length (codes "APPMODE") objects) is.modes;
 }
 
+shared_below : (objects : List Object) (own : List Attribute) → AreBelow (length (of_kind (codes "RESOURCE") objects) + 1) (ids_of objects Shared 1 (codes "RESOURCE") own)
+shared_below objects own = ids_of-below objects Shared (length (of_kind (codes "RESOURCE") objects) + 1) (shared-below objects) 1 (codes "RESOURCE") own
+
+modes_below : (objects : List Object) (own : List Attribute) → AreBelow (length (of_kind (codes "APPMODE") objects)) (start_modes objects own)
+modes_below objects own = ids_of-below objects Mode (length (of_kind (codes "APPMODE") objects)) (id_of-below (codes "APPMODE") objects) 2 (codes "APPMODE") (start_block own)
+
 is_task : (objects : List Object) (o : Object) → IsTask (objects_system objects) (task_of objects o)
 is_task objects o = record {
-  resources = rw (resources_length objects) (shared_ids-below objects o.attributes);
-  modes = rw (names_length (codes "APPMODE") objects) (mode_ids-below objects (start_block o.attributes));
+  resources = rw (resources_length objects) (shared_below objects o.attributes);
+  modes = rw (names_length (codes "APPMODE") objects) (modes_below objects o.attributes);
 }
 
 is_alarm : (objects : List Object) (o : Object) → NamesBoth objects o.attributes → IsAlarm (objects_system objects) (alarm_of objects o)
 is_alarm objects o names = record {
   counter = rw (names_length (codes "COUNTER") objects) names.counter;
   task = rw (length-map (of_kind (codes "TASK") objects) (task_of objects)) names.task;
-  modes = rw (names_length (codes "APPMODE") objects) (mode_ids-below objects (start_block o.attributes));
+  modes = rw (names_length (codes "APPMODE") objects) (modes_below objects o.attributes);
 }
 
 are_names : (objects : List Object) → AllByRecursion IsNamed objects → AreNames (objects_system objects)
@@ -144,8 +152,8 @@ are_names objects named = record {
   code = rw (code_names_same objects)
       (both_formed is_name (names_of (codes "TASK") objects) (names_of (codes "ISR") objects ++ names_of (codes "ALARM") objects) (names_formed (codes "TASK") objects named)
       (both_formed is_name (names_of (codes "ISR") objects) (names_of (codes "ALARM") objects) (names_formed (codes "ISR") objects named) (names_formed (codes "ALARM") objects named)));
-  resources = both_formed (λ r. is_name r.name) (declared_of objects objects) (scheduler_resource (top_priority objects) ∷ [])
-      (list_all-from (λ r. is_name r.name) (declared_of objects objects) (all_of_kind IsNamed (λ r. is_name r.name ≡ true) (codes "RESOURCE") (resource_of objects) (λ o is _. is.1) objects named)) refl;
+  resources = both_formed (λ r. is_name r.name) (map (resource_of objects) (of_kind (codes "RESOURCE") objects)) (scheduler_resource (top_priority objects) ∷ [])
+      (list_all-from (λ r. is_name r.name) (map (resource_of objects) (of_kind (codes "RESOURCE") objects)) (all_of_kind IsNamed (λ r. is_name r.name ≡ true) (codes "RESOURCE") (resource_of objects) (λ o is _. is.1) objects named)) refl;
   counters = names_formed (codes "COUNTER") objects named;
   modes = names_formed (codes "APPMODE") objects named;
 }
@@ -163,9 +171,9 @@ objects_lawful objects named none =
     let all = all_kept objects none in
     record {
       few = are_few objects all.0;
-      scheduler_last = record { declared = declared_of objects objects; ceiling = top_priority objects; same = refl };
+      scheduler_last = record { declared = map (resource_of objects) (of_kind (codes "RESOURCE") objects); ceiling = top_priority objects; same = refl };
       tasks = all_of_kind (λ o. Unit {0}) (IsTask (objects_system objects)) (codes "TASK") (task_of objects) (λ o _ _. is_task objects o) objects (any_object objects);
-      alarms = all_of_kind (λ o. rule_fault objects o ≡ None) (IsAlarm (objects_system objects)) (codes "ALARM") (alarm_of objects) (λ o sound is. is_alarm objects o (alarm_names objects o is sound)) objects all.1;
+      alarms = all_of_kind (λ o. attributes_fault objects o ≡ None) (IsAlarm (objects_system objects)) (codes "ALARM") (alarm_of objects) (λ o sound is. is_alarm objects o (alarm_names objects o is sound)) objects all.1;
       names = are_names objects named;
       apart = are_apart objects all.0;
     }

@@ -7,4 +7,5 @@ pub mod Apart
 pub mod Steps
 pub mod Activations
 pub mod Lawful
+pub mod TakenNames
 pub mod Worked

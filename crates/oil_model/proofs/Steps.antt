@@ -2,16 +2,15 @@
 use Rattle.std.proofs.Common.{◌≡◌, ℕ, Bool, true, false, cond, List, [], ◌∷◌, ◌++◌, map, refl, sym, ap, subst, ◌∙◌, append_assoc, append-nil}
 use Rattle.std.specs.Prelude.{◌||◌, ◌&&◌, ◌==◌, codes, bytes_eq, filter}
 use Rattle.std.specs.List.{list_any}
-use Rattle.std.proofs.lemmas.Bool.{or_from, or_left, or_right, and_from}
+use Rattle.std.proofs.lemmas.Bool.{or_from}
 use Rattle.std.proofs.lemmas.List.{map-append}
 use Rattle.std.proofs.lemmas.List.Elements.{filter-append}
 use Rattle.std.proofs.lemmas.List.Folds.{list_any-append}
 use Rattle.oil_grammar.specs.declared.tree.Object.{Object}
 use Rattle.oil_model.specs.System.{differ}
 use Rattle.oil_model.specs.References.{is_kind, of_kind, priority_of}
-use Rattle.oil_model.specs.Rules.{clashes, has_code, shares_priority}
-use Rattle.oil_model.specs.Meaning.{names_of}
-use Rattle.oil_model.proofs.Apart.{differ-insert, differ-push, same_names, all_other_way, Excludes, unnamed}
+use Rattle.oil_model.specs.Rules.{name_set, clashes, shares_priority}
+use Rattle.oil_model.proofs.Apart.{differ-insert, differ-push, same_names, all_other_way, names_of, unnamed}
 
 -- ---- one object more
 
@@ -30,13 +29,9 @@ one_kind kind other o differs is = subst (λ (k : List ℕ). bytes_eq k other �
 
 -- ---- names of one kind
 
-own_kind : (kind : List ℕ) (o : Object) → is_kind kind o ≡ true → Excludes kind o
-own_kind kind o is e same =
-    or_left (is_kind o.kind e) (has_code o && has_code e) (subst (λ (k : List ℕ). bytes_eq e.kind k ≡ true) (sym (same_names o.kind kind is)) same)
-
 names_step_at : (kind : List ℕ) (earlier : List Object) (o : Object) → differ bytes_eq (names_of kind earlier) ≡ true → list_any (clashes o) earlier ≡ false → (test : Bool) → is_kind kind o ≡ test → differ bytes_eq (names_of kind (earlier ++ o ∷ [])) ≡ true
 names_step_at kind earlier o apart free true is =
-    rw (names_with kind earlier o is) (differ-push bytes_eq o.name (names_of kind earlier) apart (unnamed kind o (own_kind kind o is) earlier free))
+    rw (names_with kind earlier o is) (differ-push bytes_eq o.name (names_of kind earlier) apart (unnamed kind o (ap name_set (same_names o.kind kind is)) earlier free))
 names_step_at kind earlier o apart free false is = rw (names_without kind earlier o is) apart
 
 pub names_step : (kind : List ℕ) (earlier : List Object) (o : Object) → differ bytes_eq (names_of kind earlier) ≡ true → list_any (clashes o) earlier ≡ false → differ bytes_eq (names_of kind (earlier ++ o ∷ [])) ≡ true
@@ -47,17 +42,8 @@ names_step kind earlier o apart free = names_step_at kind earlier o apart free (
 abbrev pub code_names_of : List Object → List (List ℕ)
 code_names_of objects = names_of (codes "TASK") objects ++ (names_of (codes "ISR") objects ++ names_of (codes "ALARM") objects)
 
-both_code : (kind : List ℕ) (o : Object) → has_code o ≡ true → ((e : Object) → is_kind kind e ≡ true → has_code e ≡ true) → Excludes kind o
-both_code kind o has each e is = or_right (is_kind o.kind e) (has_code o && has_code e) (and_from (has_code o) (has_code e) has (each e is))
-
-task_has_code : (e : Object) → is_kind (codes "TASK") e ≡ true → has_code e ≡ true
-task_has_code e is = or_left (is_kind (codes "TASK") e) _ is
-
-isr_has_code : (e : Object) → is_kind (codes "ISR") e ≡ true → has_code e ≡ true
-isr_has_code e is = or_right (is_kind (codes "TASK") e) _ (or_left (is_kind (codes "ISR") e) _ is)
-
-alarm_has_code : (e : Object) → is_kind (codes "ALARM") e ≡ true → has_code e ≡ true
-alarm_has_code e is = or_right (is_kind (codes "TASK") e) _ (or_right (is_kind (codes "ISR") e) _ is)
+in_code : (kind : List ℕ) (o : Object) → name_set kind ≡ codes "TASK" → is_kind kind o ≡ true → name_set o.kind ≡ codes "TASK"
+in_code kind o code is = ap name_set (same_names o.kind kind is) ∙ code
 
 -- the name is free among each of the three
 record IsFree (o : Object) (earlier : List Object) : Type 0 where
@@ -65,11 +51,11 @@ record IsFree (o : Object) (earlier : List Object) : Type 0 where
   isrs : list_any (λ n. bytes_eq n o.name) (names_of (codes "ISR") earlier) ≡ false
   alarms : list_any (λ n. bytes_eq n o.name) (names_of (codes "ALARM") earlier) ≡ false
 
-is_free : (o : Object) (earlier : List Object) → has_code o ≡ true → list_any (clashes o) earlier ≡ false → IsFree o earlier
-is_free o earlier has free = record {
-  tasks = unnamed (codes "TASK") o (both_code (codes "TASK") o has task_has_code) earlier free;
-  isrs = unnamed (codes "ISR") o (both_code (codes "ISR") o has isr_has_code) earlier free;
-  alarms = unnamed (codes "ALARM") o (both_code (codes "ALARM") o has alarm_has_code) earlier free;
+is_free : (o : Object) (earlier : List Object) → name_set o.kind ≡ codes "TASK" → list_any (clashes o) earlier ≡ false → IsFree o earlier
+is_free o earlier code free = record {
+  tasks = unnamed (codes "TASK") o code earlier free;
+  isrs = unnamed (codes "ISR") o code earlier free;
+  alarms = unnamed (codes "ALARM") o code earlier free;
 }
 
 none_in_both : (n : List ℕ) (xs ys : List (List ℕ)) → list_any (λ m. bytes_eq m n) xs ≡ false → list_any (λ m. bytes_eq m n) ys ≡ false → list_any (λ m. bytes_eq m n) (xs ++ ys) ≡ false
@@ -92,15 +78,15 @@ third_place n t i a apart in_t in_i in_a =
 
 code_step_at : (earlier : List Object) (o : Object) → differ bytes_eq (code_names_of earlier) ≡ true → list_any (clashes o) earlier ≡ false → (task isr alarm : Bool) → is_kind (codes "TASK") o ≡ task → is_kind (codes "ISR") o ≡ isr → is_kind (codes "ALARM") o ≡ alarm → differ bytes_eq (code_names_of (earlier ++ o ∷ [])) ≡ true
 code_step_at earlier o apart free true isr alarm is_task is_isr is_alarm =
-    let names = is_free o earlier (task_has_code o is_task) free in
+    let names = is_free o earlier (in_code (codes "TASK") o refl is_task) free in
     rw (names_with (codes "TASK") earlier o is_task, names_without (codes "ISR") earlier o (one_kind (codes "TASK") (codes "ISR") o refl is_task), names_without (codes "ALARM") earlier o (one_kind (codes "TASK") (codes "ALARM") o refl is_task))
     (first_place o.name (names_of (codes "TASK") earlier) (names_of (codes "ISR") earlier) (names_of (codes "ALARM") earlier) apart names.tasks names.isrs names.alarms)
 code_step_at earlier o apart free false true alarm is_task is_isr is_alarm =
-    let names = is_free o earlier (isr_has_code o is_isr) free in
+    let names = is_free o earlier (in_code (codes "ISR") o refl is_isr) free in
     rw (names_without (codes "TASK") earlier o is_task, names_with (codes "ISR") earlier o is_isr, names_without (codes "ALARM") earlier o (one_kind (codes "ISR") (codes "ALARM") o refl is_isr))
     (second_place o.name (names_of (codes "TASK") earlier) (names_of (codes "ISR") earlier) (names_of (codes "ALARM") earlier) apart names.tasks names.isrs names.alarms)
 code_step_at earlier o apart free false false true is_task is_isr is_alarm =
-    let names = is_free o earlier (alarm_has_code o is_alarm) free in
+    let names = is_free o earlier (in_code (codes "ALARM") o refl is_alarm) free in
     rw (names_without (codes "TASK") earlier o is_task, names_without (codes "ISR") earlier o is_isr, names_with (codes "ALARM") earlier o is_alarm)
     (third_place o.name (names_of (codes "TASK") earlier) (names_of (codes "ISR") earlier) (names_of (codes "ALARM") earlier) apart names.tasks names.isrs names.alarms)
 code_step_at earlier o apart free false false false is_task is_isr is_alarm =

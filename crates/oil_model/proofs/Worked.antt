@@ -9,7 +9,7 @@ use Rattle.oil_grammar.specs.declared.tree.Value.TheVariants as value
 use Rattle.oil_model.specs.declared.fault.ModelKind.TheVariants.{Missing, SamePriority}
 use Rattle.oil_model.specs.Attributes.{block}
 use Rattle.oil_model.specs.References.{internal_of}
-use Rattle.oil_model.specs.Rules.{task_fault, resource_fault, plain_fault, rule_fault, object_fault}
+use Rattle.oil_model.specs.Rules.{task_rules, resource_rules, attributes_fault, fault_of}
 use Rattle.oil_model.specs.Meaning.{fault_from, model_fault_of, system_of, scheduler_resource}
 
 abbrev attribute : ℕ → List ℕ → Value → Attribute
@@ -39,7 +39,7 @@ tree objects = record { version = codes "2.5"; cpu = codes "C"; objects = object
 
 -- the resource may stand behind the tasks that name it; its ceiling is that of the higher task
 two_tasks : model_fault_of (tree (task (codes "A") 3 ∷ (task (codes "B") 5 ∷ (mode ∷ (resource ∷ []))))) ≡ None
-unfolding fault_from object_fault rule_fault task_fault plain_fault resource_fault block internal_of
+unfolding fault_from fault_of attributes_fault task_rules resource_rules block internal_of
 two_tasks = refl
 
 two_tasks_system : system_of (tree (task (codes "A") 3 ∷ (task (codes "B") 5 ∷ (mode ∷ (resource ∷ []))))) ≡ record {
@@ -57,10 +57,10 @@ two_tasks_system = refl
 
 -- the second task has the first one's priority
 same_priority : model_fault_of (tree (mode ∷ (resource ∷ (task (codes "A") 3 ∷ (task (codes "B") 3 ∷ []))))) ≡ Some (3, SamePriority)
-unfolding fault_from object_fault rule_fault task_fault plain_fault resource_fault block internal_of
+unfolding fault_from fault_of attributes_fault task_rules resource_rules block internal_of
 same_priority = refl
 
 -- no task stands: the fault is behind the last object
 no_task : model_fault_of (tree (mode ∷ (resource ∷ []))) ≡ Some (2, Missing)
-unfolding fault_from object_fault rule_fault task_fault plain_fault resource_fault block internal_of
+unfolding fault_from fault_of attributes_fault task_rules resource_rules block internal_of
 no_task = refl

@@ -1,10 +1,8 @@
 -- What `model` answers to a tree. Want of memory says nothing.
-use Rattle.std.specs.Prelude.{◌≡◌, ℕ, List, Option, Some, None, Result, Ok, Err, bytes_eq, position}
+use Rattle.std.specs.Prelude.{◌≡◌, ℕ, List, Option, Some, Result, Ok, Err, bytes_eq, position}
 use Rattle.oil_grammar.specs.declared.tree.Tree.{Tree}
 use Rattle.oil_model.specs.declared.fault.ModelFault.{ModelFault}
 use Rattle.oil_model.specs.declared.fault.ModelFault.TheVariants.{At, Memory}
-use Rattle.oil_model.specs.declared.fault.ModelKind.{ModelKind}
-use Rattle.oil_model.specs.declared.judge.Place.{Place}
 use Rattle.oil_model.specs.declared.system.Task.{Task}
 use Rattle.oil_model.specs.declared.system.System.{System}
 use Rattle.oil_model.specs.Meaning.{IsSystemOf, model_fault_of}
@@ -13,11 +11,6 @@ abbrev pub AnswersModel : Tree → Result System ModelFault → Type 0
 AnswersModel tree (Ok system) = IsSystemOf tree system
 AnswersModel tree (Err (At object kind)) = model_fault_of tree ≡ Some (object, kind)
 AnswersModel tree (Err Memory) = Unit {0}
-
--- the place and the kind of a fault
-abbrev pub shown : Option Place → Option (ℕ × ModelKind)
-shown None = None
-shown (Some place) = Some (place.object, place.kind)
 
 abbrev pub task_in : List Task → List ℕ → Option ℕ
 task_in tasks name = position (λ t. bytes_eq t.name name) tasks

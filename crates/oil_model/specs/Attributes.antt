@@ -1,7 +1,7 @@
 -- Where attributes stand. The attributes of an object are one list: those of level 1 are its own, and the
 -- block of one of them is the attributes directly after it of greater levels.
-use Rattle.std.specs.Prelude.{ℕ, ◌==◌, ◌&&◌, nat_lt, nat_le, Bool, false, List, [], ◌∷◌, Option, Some, None, option_map, count_by, find, bytes_eq, if◌then◌else◌}
-use Rattle.std.specs.List.{list_any, before_first}
+use Rattle.std.specs.Prelude.{ℕ, ◌==◌, ◌&&◌, nat_le, Bool, false, List, [], ◌∷◌, Option, Some, None, option_map, find, filter, map, bytes_eq, if◌then◌else◌}
+use Rattle.std.specs.List.{before_first}
 use Rattle.oil_grammar.specs.declared.tree.Attribute.{Attribute}
 use Rattle.oil_grammar.specs.declared.tree.Value.{Value}
 use Rattle.oil_grammar.specs.declared.tree.Value.TheVariants as value
@@ -9,15 +9,11 @@ use Rattle.oil_grammar.specs.declared.tree.Value.TheVariants as value
 abbrev pub is_at : ℕ → List ℕ → Attribute → Bool
 is_at level name a = (a.level == level) && bytes_eq a.name name
 
--- whether the attribute stands at all
-abbrev pub stands : ℕ → List ℕ → List Attribute → Bool
-stands level name attributes = list_any (is_at level name) attributes
+-- the values of the attribute, in order
+abbrev pub values_of : ℕ → List ℕ → List Attribute → List Value
+values_of level name attributes = map (λ a. a.value) (filter (is_at level name) attributes)
 
--- whether the attribute stands twice or more
-abbrev pub stands_again : ℕ → List ℕ → List Attribute → Bool
-stands_again level name attributes = nat_lt 1 (count_by (is_at level name) attributes)
-
--- the value of the attribute where it stands first
+-- its value where it stands first
 abbrev pub first_value : ℕ → List ℕ → List Attribute → Option Value
 first_value level name attributes = option_map (λ a. a.value) (find (is_at level name) attributes)
 

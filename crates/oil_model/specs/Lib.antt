@@ -1,7 +1,9 @@
 pub mod System
+pub mod Kinds
 pub mod Attributes
 pub mod References
 pub mod Rules
 pub mod Meaning
 pub mod Answers
 pub mod Lone
+pub mod Working

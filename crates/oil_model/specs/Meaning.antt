@@ -1,10 +1,9 @@
 -- The first fault of a tree, and the system that a tree without a fault stands for.
-use Rattle.std.specs.Prelude.{◌≡◌, ℕ, ◌&&◌, false, List, [], ◌∷◌, ◌++◌, length, map, Option, Some, None, codes, unwrap_or, if◌then◌else◌}
+use Rattle.std.specs.Prelude.{◌≡◌, ℕ, ◌&&◌, false, List, [], ◌∷◌, ◌++◌, length, map, Option, Some, None, codes, if◌then◌else◌}
 use Rattle.std.specs.List.{list_any}
 use Rattle.oil_grammar.specs.declared.tree.Attribute.{Attribute}
 use Rattle.oil_grammar.specs.declared.tree.Object.{Object}
 use Rattle.oil_grammar.specs.declared.tree.Tree.{Tree}
-use Rattle.oil_grammar.specs.declared.tree.Value.{Value}
 use Rattle.oil_model.specs.declared.fault.ModelKind.{ModelKind}
 use Rattle.oil_model.specs.declared.fault.ModelKind.TheVariants.{Missing}
 use Rattle.oil_model.specs.declared.system.Task.{Task}
@@ -13,8 +12,10 @@ use Rattle.oil_model.specs.declared.system.Resource.{Resource}
 use Rattle.oil_model.specs.declared.system.Alarm.{Alarm}
 use Rattle.oil_model.specs.declared.system.System.{System}
 use Rattle.oil_model.specs.System.{scheduler}
-use Rattle.oil_model.specs.Attributes.{first_value, block, is_true, word_of}
-use Rattle.oil_model.specs.References.{is_kind, of_kind, id_of, id_in, number_or_zero, priority_of, top_priority, ceiling_of, is_internal, internal_of, is_non_preemptable, shared_ids, mode_ids}
+use Rattle.oil_model.specs.Attributes.{first_value, block, is_true}
+use Rattle.oil_model.specs.declared.reference.Target.TheVariants as target
+use Rattle.oil_model.specs.declared.reference.Target.TheVariants.{Counter, Mode, Shared}
+use Rattle.oil_model.specs.References.{is_kind, of_kind, number_or_zero, priority_of, top_priority, ceiling_of, is_internal, internal_of, is_non_preemptable, id_or_zero, ids_of}
 use Rattle.oil_model.specs.Rules.{object_fault, greatest_time}
 
 -- ---- the first fault
@@ -53,17 +54,20 @@ inner_of objects own =
 abbrev pub start_block : List Attribute → List Attribute
 start_block own = if is_true (first_value 1 (codes "AUTOSTART") own) then block (codes "AUTOSTART") own else []
 
+abbrev pub start_modes : List Object → List Attribute → List ℕ
+start_modes objects own = ids_of objects Mode 2 (codes "APPMODE") (start_block own)
+
 abbrev pub task_of : List Object → Object → Task
 task_of objects o = record {
   name = o.name;
   priority = priority_of o;
-  resources = shared_ids objects o.attributes;
-  modes = mode_ids objects (start_block o.attributes);
+  resources = ids_of objects Shared 1 (codes "RESOURCE") o.attributes;
+  modes = start_modes objects o.attributes;
   inner = inner_of objects o.attributes;
 }
 
-abbrev pub isr_of : Object → Isr
-isr_of o = record { name = o.name }
+abbrev pub isr_of : List Object → Object → Isr
+isr_of objects o = record { name = o.name }
 
 abbrev pub resource_of : List Object → Object → Resource
 resource_of objects o = record { name = o.name; ceiling = ceiling_of objects o.name; internal = is_internal o }
@@ -71,17 +75,12 @@ resource_of objects o = record { name = o.name; ceiling = ceiling_of objects o.n
 abbrev pub scheduler_resource : ℕ → Resource
 scheduler_resource ceiling = record { name = scheduler; ceiling = ceiling; internal = false }
 
--- the object of the kind that a value names
-abbrev pub id_named : List ℕ → List Object → Option Value → ℕ
-id_named kind objects None = 0
-id_named kind objects (Some v) = unwrap_or (id_in (id_of kind objects) (word_of v)) 0
-
 abbrev pub counter_of : List Object → List Attribute → ℕ
-counter_of objects own = id_named (codes "COUNTER") objects (first_value 1 (codes "COUNTER") own)
+counter_of objects own = id_or_zero objects Counter (first_value 1 (codes "COUNTER") own)
 
 -- the task of ACTIVATETASK
 abbrev pub activated_of : List Object → List Attribute → ℕ
-activated_of objects own = id_named (codes "TASK") objects (first_value 2 (codes "TASK") (block (codes "ACTION") own))
+activated_of objects own = id_or_zero objects target.Task (first_value 2 (codes "TASK") (block (codes "ACTION") own))
 
 abbrev pub cycle_of : List Attribute → ℕ
 cycle_of started = number_or_zero greatest_time (first_value 2 (codes "CYCLETIME") started)
@@ -92,38 +91,27 @@ alarm_of objects o = record {
   counter = counter_of objects o.attributes;
   task = activated_of objects o.attributes;
   cycle = cycle_of (start_block o.attributes);
-  modes = mode_ids objects (start_block o.attributes);
+  modes = start_modes objects o.attributes;
 }
 
--- The lists of a system. Where two lists of objects are given, the names of the second stand for objects of
--- the first.
+abbrev pub name_of : List Object → Object → List ℕ
+name_of objects o = o.name
 
-abbrev pub tasks_of : List Object → List Object → List Task
-tasks_of objects listed = map (task_of objects) (of_kind (codes "TASK") listed)
-
-abbrev pub isrs_of : List Object → List Isr
-isrs_of listed = map isr_of (of_kind (codes "ISR") listed)
-
-abbrev pub declared_of : List Object → List Object → List Resource
-declared_of objects listed = map (resource_of objects) (of_kind (codes "RESOURCE") listed)
+-- what is made of each listed object of a kind; the names in it stand for the objects
+abbrev pub made_of : {A : Type 0} → (List Object → Object → A) → List ℕ → List Object → List Object → List A
+made_of make kind objects listed = map (make objects) (of_kind kind listed)
 
 abbrev pub resources_of : List Object → List Resource
-resources_of objects = declared_of objects objects ++ scheduler_resource (top_priority objects) ∷ []
-
-abbrev pub alarms_of : List Object → List Object → List Alarm
-alarms_of objects listed = map (alarm_of objects) (of_kind (codes "ALARM") listed)
-
-abbrev pub names_of : List ℕ → List Object → List (List ℕ)
-names_of kind objects = map (λ o. o.name) (of_kind kind objects)
+resources_of objects = made_of resource_of (codes "RESOURCE") objects objects ++ scheduler_resource (top_priority objects) ∷ []
 
 abbrev pub objects_system : List Object → System
 objects_system objects = record {
-  tasks = tasks_of objects objects;
-  isrs = isrs_of objects;
+  tasks = made_of task_of (codes "TASK") objects objects;
+  isrs = made_of isr_of (codes "ISR") objects objects;
   resources = resources_of objects;
-  alarms = alarms_of objects objects;
-  counters = names_of (codes "COUNTER") objects;
-  modes = names_of (codes "APPMODE") objects;
+  alarms = made_of alarm_of (codes "ALARM") objects objects;
+  counters = made_of name_of (codes "COUNTER") objects objects;
+  modes = made_of name_of (codes "APPMODE") objects objects;
 }
 
 abbrev pub system_of : Tree → System

@@ -1,11 +1,13 @@
 -- Which objects names stand for.
-use Rattle.std.specs.Prelude.{ℕ, ◌&&◌, ◌==◌, not, Bool, false, List, [], ◌∷◌, ◌++◌, Option, Some, None, codes, bytes_eq, position, filter, filter_map, find, fold, count_by, max, unwrap_or, nat_le, nat_eq, ◌^◌, ◌-◌, ◌||◌, if◌then◌else◌}
+use Rattle.std.specs.Prelude.{ℕ, ◌&&◌, ◌==◌, not, Bool, false, List, [], ◌∷◌, ◌++◌, Option, Some, None, codes, bytes_eq, position, filter, filter_map, find, fold, map, count_by, max, unwrap_or, option_and_then, nat_le, nat_eq, ◌^◌, ◌-◌, ◌||◌, if◌then◌else◌}
 use Rattle.std.specs.List.{list_any}
 use Rattle.std.specs.Option.{option_or}
 use Rattle.oil_grammar.specs.declared.tree.Attribute.{Attribute}
 use Rattle.oil_grammar.specs.declared.tree.Object.{Object}
 use Rattle.oil_grammar.specs.declared.tree.Value.{Value}
 use Rattle.oil_grammar.specs.declared.tree.Value.TheVariants as value
+use Rattle.oil_model.specs.declared.reference.Target.{Target}
+use Rattle.oil_model.specs.declared.reference.Target.TheVariants.{Task, Counter, Mode, Resource, Shared}
 use Rattle.oil_model.specs.System.{scheduler}
 use Rattle.oil_model.specs.Attributes.{is_at, first_value, is_value, word_of}
 
@@ -24,26 +26,22 @@ id_of kind objects name = position (is_named name) (of_kind kind objects)
 
 -- RES_SCHEDULER follows the declared resources
 abbrev pub resource_id : List Object → List ℕ → Option ℕ
-resource_id objects name = if bytes_eq name scheduler then Some (count_by (is_kind (codes "RESOURCE")) objects) else id_of (codes "RESOURCE") objects name
-
--- the id that a value names, by the ids of names
-abbrev pub id_in : (List ℕ → Option ℕ) → Option (List ℕ) → Option ℕ
-id_in ids None = None
-id_in ids (Some name) = ids name
+resource_id objects name =
+    if bytes_eq name scheduler then Some (count_by (is_kind (codes "RESOURCE")) objects)
+    else id_of (codes "RESOURCE") objects name
 
 -- Numbers.
 
+-- the size of a number from 0 to the most; `-0` is 0
 abbrev pub size_in : ℕ → Bool → ℕ → Option ℕ
 size_in most negative size = if (not negative || (size == 0)) && nat_le size most then Some size else None
 
--- a number from 0 to the most; `-0` is 0
 abbrev pub number_in : ℕ → Value → Option ℕ
 number_in most (value.Number negative size) = size_in most negative size
 number_in most _ = None
 
 abbrev pub number_or_zero : ℕ → Option Value → ℕ
-number_or_zero most None = 0
-number_or_zero most (Some v) = unwrap_or (number_in most v) 0
+number_or_zero most v = unwrap_or (option_and_then (number_in most) v) 0
 
 abbrev pub greatest_priority : ℕ
 greatest_priority = 2 ^ 32 - 1
@@ -52,9 +50,13 @@ greatest_priority = 2 ^ 32 - 1
 abbrev pub priority_of : Object → ℕ
 priority_of o = number_or_zero greatest_priority (first_value 1 (codes "PRIORITY") o.attributes)
 
+-- the greatest priority of these tasks, 0 where there is none
+abbrev pub greatest : List Object → ℕ
+greatest tasks = fold max 0 (map priority_of tasks)
+
 -- the greatest priority of all tasks
 abbrev pub top_priority : List Object → ℕ
-top_priority objects = fold (λ top o. max top (priority_of o)) 0 (of_kind (codes "TASK") objects)
+top_priority objects = greatest (of_kind (codes "TASK") objects)
 
 -- Resources.
 
@@ -67,7 +69,7 @@ takes_resource name o = is_kind (codes "TASK") o && list_any (names_resource nam
 
 -- the greatest priority of the tasks that name the resource
 abbrev pub ceiling_of : List Object → List ℕ → ℕ
-ceiling_of objects name = fold (λ top o. max top (priority_of o)) 0 (filter (takes_resource name) objects)
+ceiling_of objects name = greatest (filter (takes_resource name) objects)
 
 abbrev pub is_internal : Object → Bool
 is_internal o = is_value (codes "INTERNAL") (first_value 1 (codes "RESOURCEPROPERTY") o.attributes)
@@ -112,28 +114,29 @@ has_two_internal objects attributes = has_other objects attributes (internal_of 
 abbrev pub is_non_preemptable : List Attribute → Bool
 is_non_preemptable attributes = is_value (codes "NON") (first_value 1 (codes "SCHEDULE") attributes)
 
--- Lists of ids, each once, in the order in which they are named.
+-- Ids.
+
+-- the id that a name stands for
+abbrev pub target_id : List Object → Target → List ℕ → Option ℕ
+target_id objects Task name = id_of (codes "TASK") objects name
+target_id objects Counter name = id_of (codes "COUNTER") objects name
+target_id objects Mode name = id_of (codes "APPMODE") objects name
+target_id objects Resource name = resource_id objects name
+target_id objects Shared name = if names_internal objects name then None else resource_id objects name
+
+-- the id that a value names
+abbrev pub value_id : List Object → Target → Value → Option ℕ
+value_id objects target v = option_and_then (target_id objects target) (word_of v)
+
+abbrev pub id_or_zero : List Object → Target → Option Value → ℕ
+id_or_zero objects target v = unwrap_or (option_and_then (value_id objects target) v) 0
 
 abbrev pub add_once : List ℕ → ℕ → List ℕ
 add_once ids id = if list_any (nat_eq id) ids then ids else ids ++ id ∷ []
 
-abbrev pub each_once : List ℕ → List ℕ
-each_once ids = fold add_once [] ids
+abbrev pub id_at : List Object → Target → ℕ → List ℕ → Attribute → Option ℕ
+id_at objects target level name a = if is_at level name a then value_id objects target a.value else None
 
-abbrev pub shared_in : List Object → Option (List ℕ) → Option ℕ
-shared_in objects None = None
-shared_in objects (Some name) = if names_internal objects name then None else resource_id objects name
-
--- the resource that an attribute of a task names, unless it is internal
-abbrev pub shared_at : List Object → Attribute → Option ℕ
-shared_at objects a = if is_at 1 (codes "RESOURCE") a then shared_in objects (word_of a.value) else None
-
-abbrev pub shared_ids : List Object → List Attribute → List ℕ
-shared_ids objects attributes = each_once (filter_map (shared_at objects) attributes)
-
--- the application mode that an attribute of a block names
-abbrev pub mode_at : List Object → Attribute → Option ℕ
-mode_at objects a = if is_at 2 (codes "APPMODE") a then id_in (id_of (codes "APPMODE") objects) (word_of a.value) else None
-
-abbrev pub mode_ids : List Object → List Attribute → List ℕ
-mode_ids objects block = each_once (filter_map (mode_at objects) block)
+-- the ids that the attributes of this level and name have as their values, each once, in the order of the attributes
+abbrev pub ids_of : List Object → Target → ℕ → List ℕ → List Attribute → List ℕ
+ids_of objects target level name attributes = fold add_once [] (filter_map (id_at objects target level name) attributes)

@@ -1,6 +1,5 @@
--- The rules of objects. Each gives a kind of fault where an object breaks it. Numbers of levels: 1 is the
--- object's own, 2 that of the attributes of a block.
-use Rattle.std.specs.Prelude.{ℕ, ◌-◌, ◌^◌, ◌==◌, ◌||◌, ◌&&◌, nat_le, not, Bool, List, [], ◌∷◌, Option, Some, None, is_some, codes, bytes_eq, count_by, if◌then◌else◌}
+-- The rules of objects: one table of the attributes, a row each, and what a row means.
+use Rattle.std.specs.Prelude.{ℕ, ◌-◌, ◌^◌, ◌==◌, ◌||◌, ◌&&◌, nat_le, nat_lt, not, Bool, false, List, [], ◌∷◌, map, Option, Some, None, is_some, codes, bytes_eq, count_by, if◌then◌else◌}
 use Rattle.std.specs.List.{list_any}
 use Rattle.oil_grammar.specs.declared.tree.Attribute.{Attribute}
 use Rattle.oil_grammar.specs.declared.tree.Object.{Object}
@@ -8,11 +7,85 @@ use Rattle.oil_grammar.specs.declared.tree.Value.{Value}
 use Rattle.oil_grammar.specs.declared.tree.Value.TheVariants as value
 use Rattle.oil_model.specs.declared.fault.ModelKind.{ModelKind}
 use Rattle.oil_model.specs.declared.fault.ModelKind.TheVariants.{Twice, Missing, UnknownName, BadValue, Unsupported, SamePriority, Limit}
+use Rattle.oil_model.specs.declared.reference.Target.TheVariants as target
+use Rattle.oil_model.specs.declared.rule.Site.{Site}
+use Rattle.oil_model.specs.declared.rule.Site.TheVariants.{Own, Started, Activating}
+use Rattle.oil_model.specs.declared.rule.Times.{Times}
+use Rattle.oil_model.specs.declared.rule.Times.TheVariants.{Once, AtMostOnce, AtLeastOnce, AnyTimes}
+use Rattle.oil_model.specs.declared.rule.Form.{Form}
+use Rattle.oil_model.specs.declared.rule.Form.TheVariants.{UpTo, AnyNumber, One, Two, Truth, Schedule, Property, Action, Named, Untaken}
 use Rattle.oil_model.specs.System.{scheduler}
-use Rattle.oil_model.specs.Attributes.{is_at, stands, stands_again, first_value, block}
-use Rattle.oil_model.specs.References.{is_kind, is_named, id_of, resource_id, number_in, greatest_priority, priority_of, internal_of, has_two_internal, is_non_preemptable}
+use Rattle.oil_model.specs.Attributes.{is_at, values_of, first_value, block, is_true, is_value}
+use Rattle.oil_model.specs.References.{is_kind, is_named, target_id, size_in, greatest_priority, priority_of, internal_of, has_two_internal, is_non_preemptable}
 
--- The least of the kinds of fault that hold.
+-- ---- the table
+
+-- An attribute at a site stands so often, each time with a value of the form.
+pub record Rule : Type 0 where
+  pub site : Site
+  pub attribute : List ℕ
+  pub times : Times
+  pub form : Form
+
+abbrev pub row : Site → List ℕ → Times → Form → Rule
+row site attribute times form = record { site = site; attribute = attribute; times = times; form = form }
+
+abbrev pub greatest_time : ℕ
+greatest_time = 2 ^ 31 - 1
+
+unfoldable pub task_rules : List Rule
+task_rules =
+    row Own (codes "PRIORITY") Once (UpTo greatest_priority)
+    ∷ row Own (codes "SCHEDULE") AtMostOnce Schedule
+    ∷ row Own (codes "ACTIVATION") AtMostOnce One
+    ∷ row Own (codes "AUTOSTART") AtMostOnce Truth
+    ∷ row Started (codes "APPMODE") AtLeastOnce (Named target.Mode)
+    ∷ row Own (codes "RESOURCE") AnyTimes (Named target.Resource)
+    ∷ row Own (codes "EVENT") AnyTimes Untaken
+    ∷ row Own (codes "MESSAGE") AnyTimes Untaken
+    ∷ []
+
+unfoldable pub isr_rules : List Rule
+isr_rules =
+    row Own (codes "CATEGORY") Once Two
+    ∷ row Own (codes "RESOURCE") AnyTimes Untaken
+    ∷ row Own (codes "EVENT") AnyTimes Untaken
+    ∷ row Own (codes "MESSAGE") AnyTimes Untaken
+    ∷ []
+
+unfoldable pub resource_rules : List Rule
+resource_rules = row Own (codes "RESOURCEPROPERTY") Once Property ∷ []
+
+unfoldable pub alarm_rules : List Rule
+alarm_rules =
+    row Own (codes "COUNTER") Once (Named target.Counter)
+    ∷ row Own (codes "ACTION") Once Action
+    ∷ row Activating (codes "TASK") Once (Named target.Task)
+    ∷ row Own (codes "AUTOSTART") AtMostOnce Truth
+    ∷ row Started (codes "CYCLETIME") Once (UpTo greatest_time)
+    ∷ row Started (codes "ALARMTIME") AtMostOnce (UpTo greatest_time)
+    ∷ row Started (codes "APPMODE") AtLeastOnce (Named target.Mode)
+    ∷ []
+
+unfoldable pub counter_rules : List Rule
+counter_rules =
+    row Own (codes "MAXALLOWEDVALUE") AtMostOnce AnyNumber
+    ∷ row Own (codes "TICKSPERBASE") AtMostOnce AnyNumber
+    ∷ row Own (codes "MINCYCLE") AtMostOnce AnyNumber
+    ∷ []
+
+-- the rules of the objects of a kind; OS and APPMODE have none, and other kinds aren't taken
+abbrev pub rules_of : List ℕ → Option (List Rule)
+rules_of kind =
+    if bytes_eq kind (codes "TASK") then Some task_rules
+    else (if bytes_eq kind (codes "ISR") then Some isr_rules
+    else (if bytes_eq kind (codes "RESOURCE") then Some resource_rules
+    else (if bytes_eq kind (codes "ALARM") then Some alarm_rules
+    else (if bytes_eq kind (codes "COUNTER") then Some counter_rules
+    else (if bytes_eq kind (codes "OS") || bytes_eq kind (codes "APPMODE") then Some []
+    else None)))))
+
+-- ---- the least of the kinds of fault that hold
 
 abbrev pub rank_of : ModelKind → ℕ
 rank_of Twice = 1
@@ -35,223 +108,113 @@ least_of (fault ∷ faults) = least fault (least_of faults)
 abbrev pub fault_if : Bool → ModelKind → Option ModelKind
 fault_if broken kind = if broken then Some kind else None
 
--- Values.
+-- ---- what a row means
 
--- a value that the rule doesn't have
-abbrev pub other_value : Value → Option ModelKind
-other_value value.Auto = Some Unsupported
-other_value _ = Some BadValue
+-- a value that the form doesn't have
+abbrev pub other_fault : Form → Option ModelKind
+other_fault Untaken = Some Unsupported
+other_fault _ = Some BadValue
 
--- a number from 0 to the most
-abbrev pub number_rule : ℕ → Value → Option ModelKind
-number_rule most v = if is_some (number_in most v) then None else other_value v
+-- a value that is taken, or one that OSEK has and that isn't taken here
+abbrev pub choice_fault : Bool → Bool → Option ModelKind
+choice_fault taken untaken = if taken then None else (if untaken then Some Unsupported else Some BadValue)
 
--- the name of an object, where names have these ids
-abbrev pub reference_rule : (List ℕ → Option ℕ) → Value → Option ModelKind
-reference_rule ids (value.Name name) = fault_if (not (is_some (ids name))) UnknownName
-reference_rule ids v = other_value v
+abbrev pub number_fault : Form → Bool → ℕ → Option ModelKind
+number_fault (UpTo most) negative size = fault_if (not (is_some (size_in most negative size))) BadValue
+number_fault AnyNumber negative size = None
+number_fault One negative size = fault_if (negative || not (size == 1)) Unsupported
+number_fault Two negative size = choice_fault (not negative && (size == 2)) (not negative && (size == 1))
+number_fault form negative size = other_fault form
 
--- Attributes.
+abbrev pub name_fault : List Object → Form → List ℕ → Option ModelKind
+name_fault objects Schedule name = choice_fault (bytes_eq name (codes "FULL") || bytes_eq name (codes "NON")) false
+name_fault objects Property name =
+    choice_fault (bytes_eq name (codes "STANDARD") || bytes_eq name (codes "INTERNAL")) (bytes_eq name (codes "LINKED"))
+name_fault objects Action name =
+    choice_fault (bytes_eq name (codes "ACTIVATETASK")) (bytes_eq name (codes "SETEVENT") || bytes_eq name (codes "ALARMCALLBACK"))
+name_fault objects (Named target) name = fault_if (not (is_some (target_id objects target name))) UnknownName
+name_fault objects form name = other_fault form
 
--- an attribute that may stand once, and otherwise follows the rule
-abbrev pub once : (Option Value → Option ModelKind) → ℕ → List ℕ → List Attribute → Option ModelKind
-once rule level name attributes = if stands_again level name attributes then Some Twice else rule (first_value level name attributes)
+abbrev pub truth_fault : Form → Option ModelKind
+truth_fault Truth = None
+truth_fault form = other_fault form
 
-abbrev pub required : (Value → Option ModelKind) → Option Value → Option ModelKind
-required rule None = Some Missing
-required rule (Some v) = rule v
+abbrev pub value_fault : List Object → Form → Value → Option ModelKind
+value_fault objects form (value.Number negative size) = number_fault form negative size
+value_fault objects form (value.Name name) = name_fault objects form name
+value_fault objects form (value.Bool b) = truth_fault form
+value_fault objects form (value.Text text) = other_fault form
+value_fault objects form value.Auto = Some Unsupported
 
-abbrev pub optional : (Value → Option ModelKind) → Option Value → Option ModelKind
-optional rule None = None
-optional rule (Some v) = rule v
+-- an attribute that stands so many times
+abbrev pub times_fault : Times → ℕ → Option ModelKind
+times_fault Once n = if n == 0 then Some Missing else fault_if (nat_lt 1 n) Twice
+times_fault AtMostOnce n = fault_if (nat_lt 1 n) Twice
+times_fault AtLeastOnce n = fault_if (n == 0) Missing
+times_fault AnyTimes n = None
 
--- an attribute that may stand any number of times, each time by the rule
-abbrev pub each : (Value → Option ModelKind) → ℕ → List ℕ → List Attribute → Option ModelKind
-each rule level name [] = None
-each rule level name (a ∷ attributes) = least (if is_at level name a then rule a.value else None) (each rule level name attributes)
+abbrev pub values_fault : List Object → Form → List Value → Option ModelKind
+values_fault objects form values = least_of (map (value_fault objects form) values)
 
--- an own attribute that the analysis doesn't take
-abbrev pub unsupported : List ℕ → List Attribute → Option ModelKind
-unsupported name attributes = fault_if (stands 1 name attributes) Unsupported
+-- the attributes among which those of the site stand, where there are such: the object's own and all others, those
+-- of the block of AUTOSTART = TRUE, and those of the block of ACTION = ACTIVATETASK
+abbrev pub attributes_at : Site → List Attribute → Option (List Attribute)
+attributes_at Own own = Some own
+attributes_at Started own =
+    if is_true (first_value 1 (codes "AUTOSTART") own) then Some (block (codes "AUTOSTART") own) else None
+attributes_at Activating own =
+    if is_value (codes "ACTIVATETASK") (first_value 1 (codes "ACTION") own) then Some (block (codes "ACTION") own) else None
 
--- AUTOSTART: FALSE, or TRUE with a block of which this kind of fault holds
-abbrev pub start_rule : Option ModelKind → Value → Option ModelKind
-start_rule within (value.Bool b) = if b then within else None
-start_rule within v = other_value v
+-- 1 is the level of an object's own attributes, 2 that of the attributes of their blocks
+abbrev pub level_of : Site → ℕ
+level_of Own = 1
+level_of Started = 2
+level_of Activating = 2
 
-abbrev pub each_mode : List Object → List Attribute → Option ModelKind
-each_mode objects within = each (reference_rule (id_of (codes "APPMODE") objects)) 2 (codes "APPMODE") within
+abbrev pub attribute_fault : List Object → Rule → Option (List Attribute) → Option ModelKind
+attribute_fault objects rule None = None
+attribute_fault objects rule (Some attributes) = least
+    (times_fault rule.times (count_by (is_at (level_of rule.site) rule.attribute) attributes))
+    (values_fault objects rule.form (values_of (level_of rule.site) rule.attribute attributes))
 
--- one or more application modes in a block
-abbrev pub modes_rule : List Object → List Attribute → Option ModelKind
-modes_rule objects within = if stands 2 (codes "APPMODE") within then each_mode objects within else Some Missing
+-- what an object with these attributes breaks of the rule
+abbrev pub rule_fault : List Object → List Attribute → Rule → Option ModelKind
+rule_fault objects own rule = attribute_fault objects rule (attributes_at rule.site own)
 
--- TASK.
+abbrev pub rules_fault : List Object → List Attribute → List Rule → Option ModelKind
+rules_fault objects own rules = least_of (map (rule_fault objects own) rules)
 
-abbrev pub priority_rule : List Attribute → Option ModelKind
-priority_rule own = once (required (number_rule greatest_priority)) 1 (codes "PRIORITY") own
+abbrev pub rules_or_untaken : List Object → List Attribute → Option (List Rule) → Option ModelKind
+rules_or_untaken objects own None = Some Unsupported
+rules_or_untaken objects own (Some rules) = rules_fault objects own rules
 
-abbrev pub schedule_value : Value → Option ModelKind
-schedule_value (value.Name name) = fault_if (not (bytes_eq name (codes "FULL") || bytes_eq name (codes "NON"))) BadValue
-schedule_value v = other_value v
+-- what the object's attributes break
+unfoldable pub attributes_fault : List Object → Object → Option ModelKind
+attributes_fault objects o = rules_or_untaken objects o.attributes (rules_of o.kind)
 
-abbrev pub schedule_rule : List Attribute → Option ModelKind
-schedule_rule own = once (optional schedule_value) 1 (codes "SCHEDULE") own
-
--- more than one activation at a time isn't taken
-abbrev pub activation_value : Value → Option ModelKind
-activation_value (value.Number negative size) = fault_if (negative || not (size == 1)) Unsupported
-activation_value v = other_value v
-
-abbrev pub activation_rule : List Attribute → Option ModelKind
-activation_rule own = once (optional activation_value) 1 (codes "ACTIVATION") own
-
-abbrev pub task_start_rule : List Object → List Attribute → Option ModelKind
-task_start_rule objects own = once (optional (start_rule (modes_rule objects (block (codes "AUTOSTART") own)))) 1 (codes "AUTOSTART") own
-
-abbrev pub resources_rule : List Object → List Attribute → Option ModelKind
-resources_rule objects own = each (reference_rule (resource_id objects)) 1 (codes "RESOURCE") own
+-- ---- the other rules of an object, among all objects and behind these earlier ones
 
 -- a task has at most one internal resource, and none where it can't be preempted
-abbrev pub inner_rule : List Object → List Attribute → Option ModelKind
-inner_rule objects own = fault_if ((is_non_preemptable own && is_some (internal_of objects own)) || has_two_internal objects own) BadValue
+abbrev pub is_raised_twice : List Object → List Attribute → Bool
+is_raised_twice objects own = (is_non_preemptable own && is_some (internal_of objects own)) || has_two_internal objects own
 
-unfoldable pub task_fault : List Object → List Attribute → Option ModelKind
-task_fault objects own = least_of (
-    priority_rule own
-    ∷ (schedule_rule own
-    ∷ (activation_rule own
-    ∷ (task_start_rule objects own
-    ∷ (resources_rule objects own
-    ∷ (inner_rule objects own
-    ∷ (unsupported (codes "EVENT") own
-    ∷ (unsupported (codes "MESSAGE") own
-    ∷ []))))))))
+abbrev pub inner_fault : List Object → Object → Option ModelKind
+inner_fault objects o = fault_if (is_kind (codes "TASK") o && is_raised_twice objects o.attributes) BadValue
 
--- ISR.
-
--- category 1 isn't taken
-abbrev pub category_value : Value → Option ModelKind
-category_value (value.Number negative size) =
-    if not negative && (size == 2) then None
-    else (if not negative && (size == 1) then Some Unsupported
-    else Some BadValue)
-category_value v = other_value v
-
-abbrev pub category_rule : List Attribute → Option ModelKind
-category_rule own = once (required category_value) 1 (codes "CATEGORY") own
-
-unfoldable pub isr_fault : List Attribute → Option ModelKind
-isr_fault own = least_of (
-    category_rule own
-    ∷ (unsupported (codes "RESOURCE") own
-    ∷ (unsupported (codes "EVENT") own
-    ∷ (unsupported (codes "MESSAGE") own
-    ∷ []))))
-
--- RESOURCE.
-
--- linked resources aren't taken
-abbrev pub property_word : List ℕ → Option ModelKind
-property_word name =
-    if bytes_eq name (codes "STANDARD") || bytes_eq name (codes "INTERNAL") then None
-    else (if bytes_eq name (codes "LINKED") then Some Unsupported
-    else Some BadValue)
-
-abbrev pub property_value : Value → Option ModelKind
-property_value (value.Name name) = property_word name
-property_value v = other_value v
-
-unfoldable pub resource_fault : List Attribute → Option ModelKind
-resource_fault own = once (required property_value) 1 (codes "RESOURCEPROPERTY") own
-
--- ALARM.
-
-abbrev pub counter_rule : List Object → List Attribute → Option ModelKind
-counter_rule objects own = once (required (reference_rule (id_of (codes "COUNTER") objects))) 1 (codes "COUNTER") own
-
--- the TASK of ACTIVATETASK
-abbrev pub activated_rule : List Object → List Attribute → Option ModelKind
-activated_rule objects within = once (required (reference_rule (id_of (codes "TASK") objects))) 2 (codes "TASK") within
-
--- ACTIVATETASK with a block of which this kind of fault holds; other actions aren't taken
-abbrev pub action_word : Option ModelKind → List ℕ → Option ModelKind
-action_word within name =
-    if bytes_eq name (codes "ACTIVATETASK") then within
-    else (if bytes_eq name (codes "SETEVENT") || bytes_eq name (codes "ALARMCALLBACK") then Some Unsupported
-    else Some BadValue)
-
-abbrev pub action_value : Option ModelKind → Value → Option ModelKind
-action_value within (value.Name name) = action_word within name
-action_value within v = other_value v
-
-abbrev pub action_rule : List Object → List Attribute → Option ModelKind
-action_rule objects own = once (required (action_value (activated_rule objects (block (codes "ACTION") own)))) 1 (codes "ACTION") own
-
-abbrev pub greatest_time : ℕ
-greatest_time = 2 ^ 31 - 1
-
-abbrev pub cycle_rule : List Attribute → Option ModelKind
-cycle_rule within = once (required (number_rule greatest_time)) 2 (codes "CYCLETIME") within
-
-abbrev pub alarm_time_rule : List Attribute → Option ModelKind
-alarm_time_rule within = once (optional (number_rule greatest_time)) 2 (codes "ALARMTIME") within
-
-abbrev pub alarm_block_fault : List Object → List Attribute → Option ModelKind
-alarm_block_fault objects within = least_of (cycle_rule within ∷ (alarm_time_rule within ∷ (modes_rule objects within ∷ [])))
-
-abbrev pub alarm_start_rule : List Object → List Attribute → Option ModelKind
-alarm_start_rule objects own = once (optional (start_rule (alarm_block_fault objects (block (codes "AUTOSTART") own)))) 1 (codes "AUTOSTART") own
-
-unfoldable pub alarm_fault : List Object → List Attribute → Option ModelKind
-alarm_fault objects own = least_of (counter_rule objects own ∷ (action_rule objects own ∷ (alarm_start_rule objects own ∷ [])))
-
--- COUNTER.
-
-abbrev pub count_value : Value → Option ModelKind
-count_value (value.Number negative size) = None
-count_value v = other_value v
-
-abbrev pub count_rule : List ℕ → List Attribute → Option ModelKind
-count_rule name own = once (optional count_value) 1 name own
-
-unfoldable pub counter_fault : List Attribute → Option ModelKind
-counter_fault own = least_of (
-    count_rule (codes "MAXALLOWEDVALUE") own
-    ∷ (count_rule (codes "TICKSPERBASE") own
-    ∷ (count_rule (codes "MINCYCLE") own
-    ∷ [])))
-
--- Objects.
-
--- the rules of an object without code; OS and APPMODE have none
-unfoldable pub plain_fault : Object → Option ModelKind
-plain_fault o =
-    if is_kind (codes "RESOURCE") o then resource_fault o.attributes
-    else (if is_kind (codes "COUNTER") o then counter_fault o.attributes
-    else fault_if (not (is_kind (codes "OS") o || is_kind (codes "APPMODE") o)) Unsupported)
-
--- the rules of the object's attributes
-unfoldable pub rule_fault : List Object → Object → Option ModelKind
-rule_fault objects o =
-    if is_kind (codes "TASK") o then task_fault objects o.attributes
-    else (if is_kind (codes "ISR") o then isr_fault o.attributes
-    else (if is_kind (codes "ALARM") o then alarm_fault objects o.attributes
-    else plain_fault o))
-
--- the kinds of objects that share one set of names
-abbrev pub has_code : Object → Bool
-has_code o = is_kind (codes "TASK") o || (is_kind (codes "ISR") o || is_kind (codes "ALARM") o)
+-- the set of names in which those of a kind are: TASK, ISR and ALARM share one, and each other kind has its own
+abbrev pub name_set : List ℕ → List ℕ
+name_set kind = if bytes_eq kind (codes "ISR") || bytes_eq kind (codes "ALARM") then codes "TASK" else kind
 
 -- whether two objects can't both have their name
 abbrev pub clashes : Object → Object → Bool
-clashes o other = is_named o.name other && (is_kind o.kind other || (has_code o && has_code other))
+clashes o other = bytes_eq (name_set o.kind) (name_set other.kind) && bytes_eq o.name other.name
 
 abbrev pub is_scheduler : Object → Bool
 is_scheduler o = is_kind (codes "RESOURCE") o && is_named scheduler o
 
-abbrev pub name_fault : List Object → Object → Option ModelKind
-name_fault earlier o = fault_if (is_scheduler o || list_any (clashes o) earlier) Twice
+-- whether the name is taken
+abbrev pub is_taken : List Object → Object → Bool
+is_taken earlier o = list_any (clashes o) earlier
 
 abbrev pub shares_priority : Object → Object → Bool
 shares_priority o other = is_kind (codes "TASK") other && (priority_of other == priority_of o)
@@ -271,11 +234,15 @@ limit_fault earlier o = fault_if (
     || (is_past 8 (codes "RESOURCE") earlier o
     || is_past 4 (codes "APPMODE") earlier o)))) Limit
 
--- the least kind of fault of an object among all objects, behind these earlier ones
-unfoldable pub object_fault : List Object → List Object → Object → Option ModelKind
-object_fault objects earlier o = least_of (
-    name_fault earlier o
-    ∷ (rule_fault objects o
-    ∷ (priority_fault earlier o
-    ∷ (limit_fault earlier o
-    ∷ []))))
+-- the least kind of fault of an object, where its name is taken or isn't
+unfoldable pub fault_of : List Object → List Object → Object → Bool → Option ModelKind
+fault_of objects earlier o taken = least_of (
+    fault_if (is_scheduler o || taken) Twice
+    ∷ attributes_fault objects o
+    ∷ inner_fault objects o
+    ∷ priority_fault earlier o
+    ∷ limit_fault earlier o
+    ∷ [])
+
+abbrev pub object_fault : List Object → List Object → Object → Option ModelKind
+object_fault objects earlier o = fault_of objects earlier o (is_taken earlier o)

@@ -1,7 +1,7 @@
 //! Where attributes stand. Those of an object are one list; level 1 is that of its own attributes, and
 //! level 2 that of the attributes of a block.
 
-ghost use Rattle.std.specs.Prelude.{◌≡◌, option_copied, bytes_eq, position};
+ghost use Rattle.std.specs.Prelude.{◌≡◌, option_copied, bytes_eq, position, count_by};
 ghost use Rattle.std.specs.List.{before_first};
 ghost use Rattle.oil_model.specs.Attributes as words;
 
@@ -13,24 +13,14 @@ pub(crate) fn is_at(attribute: &Attribute, level: u8, name: &[u8]) -> bool
     attribute.level == level && attribute.name.as_slice() == name
 }
 
-/// Whether the attribute stands at all.
-pub(crate) fn stands(attributes: &[Attribute], level: u8, name: &[u8]) -> bool
-    ensures { result ≡ words.stands level name.now attributes.now }
-{
-    attributes
-        .iter()
-        .any(|attribute| is_at(attribute, level, name))
-}
-
-/// Whether the attribute stands twice or more.
-pub(crate) fn stands_again(attributes: &[Attribute], level: u8, name: &[u8]) -> bool
-    ensures { result ≡ words.stands_again level name.now attributes.now }
+/// How often the attribute stands.
+pub(crate) fn count_at(attributes: &[Attribute], level: u8, name: &[u8]) -> usize
+    ensures { result ≡ count_by (words.is_at level name.now) attributes.now }
 {
     attributes
         .iter()
         .filter(|attribute| is_at(*attribute, level, name))
         .count()
-        > 1
 }
 
 /// The value of the attribute where it stands first.

@@ -1,33 +1,31 @@
 //! The system of a tree without a fault.
 
-ghost use Rattle.std.specs.Prelude.{◌≡◌, ◌∷◌, [], ◌++◌, IfOk, OnOk, option_copied, codes};
+ghost use Rattle.std.specs.Prelude.{◌≡◌, IfOk, option_copied, codes};
 ghost use Rattle.oil_model.specs.Meaning as words;
-ghost use Rattle.oil_model.specs.References.{of_kind, top_priority, internal_of};
+ghost use Rattle.oil_model.specs.References.{top_priority, internal_of};
 
-use crate::alarm_rules::GREATEST_TIME;
 use crate::attribute::{block, first_value, is_true};
-use crate::ids::{id_at, mode_ids, shared_ids};
+use crate::ids::{id_or_zero, ids_of};
 use crate::reference::{
-    ceiling_of, internal_of, is_internal, is_kind, is_non_preemptable, number_or_zero, priority_of,
-    top_priority,
+    Target, ceiling_of, internal_of, is_internal, is_kind, is_non_preemptable, number_or_zero,
+    priority_of, top_priority,
 };
-use crate::system::{
-    Alarm, Alarms, Isr, Isrs, Name, Names, Resource, Resources, System, Task, Tasks,
-};
-use listed::Memory;
-use oil_grammar::{Attribute, Object, Value};
+use crate::rules::GREATEST_TIME;
+use crate::system::{Alarm, Ids, Isr, Name, Resource, Resources, System, Task};
+use listed::{Listed, Memory};
+use oil_grammar::{Attribute, Object};
 use std::alloc::Global;
 
 /// The system of the objects.
 pub(crate) fn system_of(alloc: Global, objects: &[Object]) -> Result<System, Memory>
     ensures { IfOk result (λ system. system ≡ words.objects_system objects.now) }
 {
-    let tasks = tasks_of(alloc, objects)?;
-    let isrs = isrs_of(alloc, objects)?;
+    let tasks = each_of_kind(alloc, objects, b"TASK")?;
+    let isrs = each_of_kind(alloc, objects, b"ISR")?;
     let resources = resources_of(alloc, objects)?;
-    let alarms = alarms_of(alloc, objects)?;
-    let counters = names_of(alloc, objects, b"COUNTER")?;
-    let modes = names_of(alloc, objects, b"APPMODE")?;
+    let alarms = each_of_kind(alloc, objects, b"ALARM")?;
+    let counters = each_of_kind(alloc, objects, b"COUNTER")?;
+    let modes = each_of_kind(alloc, objects, b"APPMODE")?;
     Ok(System {
         tasks,
         isrs,
@@ -38,40 +36,120 @@ pub(crate) fn system_of(alloc: Global, objects: &[Object]) -> Result<System, Mem
     })
 }
 
-fn tasks_of(alloc: Global, objects: &[Object]) -> Result<Tasks, Memory>
-    ensures { IfOk result (λ tasks. tasks ≡ words.tasks_of objects.now objects.now) }
+/// What a system has for an object of its kind.
+trait Made: Drop {
+    ghost use Rattle.std.specs.Prelude.{List};
+    ghost use Rattle.oil_grammar.specs.declared.tree.Object.{Object};
+
+    ghost made: { List Object → Object → Self };
+
+    fn make(alloc: Global, objects: &[Object], object: &Object) -> Result<Self, Memory>
+        ensures { IfOk result (λ value. value ≡ made objects.now object.now) };
+}
+
+/// What the system has for each object of the kind.
+fn each_of_kind<T: Made>(
+    alloc: Global,
+    objects: &[Object],
+    kind: &[u8],
+) -> Result<Listed<T>, Memory>
+    ensures { IfOk result
+        (λ list. list ≡ words.made_of T.made kind.now objects.now objects.now) }
 {
-    let mut tasks = Tasks::new(alloc);
+    let mut list = Listed::new(alloc);
     let mut rest = objects;
     while let Some((first, more)) = rest.split_first() {
-        if is_kind(first, b"TASK") {
-            tasks.push(task_of(alloc, objects, first)?)?;
+        if is_kind(first, kind) {
+            list.push(T::make(alloc, objects, first)?)?;
         }
         rest = more;
     }
-    Ok(tasks)
+    Ok(list)
 }
 
-fn task_of(alloc: Global, objects: &[Object], object: &Object) -> Result<Task, Memory>
-    ensures { IfOk result (λ task. task ≡ words.task_of objects.now object.now) }
+impl Made for Name {
+    ghost made = { words.name_of };
+
+    fn make(alloc: Global, _objects: &[Object], object: &Object) -> Result<Name, Memory> {
+        Name::from_slice(alloc, object.name.as_slice())
+    }
+}
+
+impl Made for Task {
+    ghost made = { words.task_of };
+
+    fn make(alloc: Global, objects: &[Object], object: &Object) -> Result<Task, Memory> {
+        let own = object.attributes.as_slice();
+        let name = Name::make(alloc, objects, object)?;
+        let resources = ids_of(alloc, objects, Target::Shared, own, 1, b"RESOURCE")?;
+        let modes = start_modes(alloc, objects, own)?;
+        Ok(Task {
+            name,
+            priority: priority_of(object),
+            resources,
+            modes,
+            inner: inner_of(objects, own),
+        })
+    }
+}
+
+impl Made for Isr {
+    ghost made = { words.isr_of };
+
+    fn make(alloc: Global, objects: &[Object], object: &Object) -> Result<Isr, Memory> {
+        let name = Name::make(alloc, objects, object)?;
+        Ok(Isr { name })
+    }
+}
+
+impl Made for Resource {
+    ghost made = { words.resource_of };
+
+    fn make(alloc: Global, objects: &[Object], object: &Object) -> Result<Resource, Memory> {
+        let name = Name::make(alloc, objects, object)?;
+        Ok(Resource {
+            name,
+            ceiling: ceiling_of(objects, object.name.as_slice()),
+            internal: is_internal(object),
+        })
+    }
+}
+
+impl Made for Alarm {
+    ghost made = { words.alarm_of };
+
+    fn make(alloc: Global, objects: &[Object], object: &Object) -> Result<Alarm, Memory> {
+        let own = object.attributes.as_slice();
+        let name = Name::make(alloc, objects, object)?;
+        let modes = start_modes(alloc, objects, own)?;
+        Ok(Alarm {
+            name,
+            counter: counter_of(objects, own),
+            task: activated_of(objects, own),
+            cycle: cycle_of(start_block(own)),
+            modes,
+        })
+    }
+}
+
+fn resources_of(alloc: Global, objects: &[Object]) -> Result<Resources, Memory>
+    ensures { IfOk result (λ resources. resources ≡ words.resources_of objects.now) }
 {
-    let own = object.attributes.as_slice();
-    let name = name_of(alloc, object)?;
-    let resources = shared_ids(alloc, objects, own)?;
-    let modes = mode_ids(alloc, objects, start_block(own))?;
-    Ok(Task {
+    let mut resources = each_of_kind(alloc, objects, b"RESOURCE")?;
+    resources.push(scheduler_resource(alloc, top_priority(objects))?)?;
+    Ok(resources)
+}
+
+/// The resource `RES_SCHEDULER`.
+pub(crate) fn scheduler_resource(alloc: Global, ceiling: u32) -> Result<Resource, Memory>
+    ensures { IfOk result (λ resource. resource ≡ words.scheduler_resource ceiling) }
+{
+    let name = Name::from_slice(alloc, b"RES_SCHEDULER")?;
+    Ok(Resource {
         name,
-        priority: priority_of(object),
-        resources,
-        modes,
-        inner: inner_of(objects, own),
+        ceiling,
+        internal: false,
     })
-}
-
-fn name_of(alloc: Global, object: &Object) -> Result<Name, Memory>
-    ensures { IfOk result (λ name. name ≡ object.now.name) }
-{
-    Name::from_slice(alloc, object.name.as_slice())
 }
 
 /// The block of AUTOSTART = TRUE, which is empty where the object isn't started.
@@ -83,6 +161,20 @@ fn start_block(own: &[Attribute]) -> &[Attribute]
     } else {
         &[]
     }
+}
+
+/// The application modes in which the object is started.
+fn start_modes(alloc: Global, objects: &[Object], own: &[Attribute]) -> Result<Ids, Memory>
+    ensures { IfOk result (λ modes. modes ≡ words.start_modes objects.now own.now) }
+{
+    ids_of(
+        alloc,
+        objects,
+        Target::Mode,
+        start_block(own),
+        2,
+        b"APPMODE",
+    )
 }
 
 fn inner_of(objects: &[Object], own: &[Attribute]) -> Option<u32>
@@ -104,138 +196,22 @@ fn inner_ceiling(objects: &[Object], own: &[Attribute]) -> Option<u32>
     }
 }
 
-fn isrs_of(alloc: Global, objects: &[Object]) -> Result<Isrs, Memory>
-    ensures { IfOk result (λ isrs. isrs ≡ words.isrs_of objects.now) }
-{
-    let mut isrs = Isrs::new(alloc);
-    let mut rest = objects;
-    while let Some((first, more)) = rest.split_first() {
-        if is_kind(first, b"ISR") {
-            let name = name_of(alloc, first)?;
-            isrs.push(Isr { name })?;
-        }
-        rest = more;
-    }
-    Ok(isrs)
-}
-
-fn resources_of(alloc: Global, objects: &[Object]) -> Result<Resources, Memory>
-    ensures { IfOk result (λ resources. resources ≡ words.resources_of objects.now) }
-{
-    let mut resources = declared_of(alloc, objects)?;
-    resources.push(scheduler_resource(alloc, top_priority(objects))?)?;
-    Ok(resources)
-}
-
-fn declared_of(alloc: Global, objects: &[Object]) -> Result<Resources, Memory>
-    ensures { IfOk result (λ resources. resources ≡ words.declared_of objects.now objects.now) }
-{
-    let mut resources = Resources::new(alloc);
-    let mut rest = objects;
-    while let Some((first, more)) = rest.split_first() {
-        if is_kind(first, b"RESOURCE") {
-            resources.push(resource_of(alloc, objects, first)?)?;
-        }
-        rest = more;
-    }
-    Ok(resources)
-}
-
-fn resource_of(alloc: Global, objects: &[Object], object: &Object) -> Result<Resource, Memory>
-    ensures { IfOk result (λ resource. resource ≡ words.resource_of objects.now object.now) }
-{
-    let name = name_of(alloc, object)?;
-    Ok(Resource {
-        name,
-        ceiling: ceiling_of(objects, object.name.as_slice()),
-        internal: is_internal(object),
-    })
-}
-
-/// The resource `RES_SCHEDULER`.
-pub(crate) fn scheduler_resource(alloc: Global, ceiling: u32) -> Result<Resource, Memory>
-    ensures { IfOk result (λ resource. resource ≡ words.scheduler_resource ceiling) }
-{
-    let name = Name::from_slice(alloc, b"RES_SCHEDULER")?;
-    Ok(Resource {
-        name,
-        ceiling,
-        internal: false,
-    })
-}
-
-fn alarms_of(alloc: Global, objects: &[Object]) -> Result<Alarms, Memory>
-    ensures { IfOk result (λ alarms. alarms ≡ words.alarms_of objects.now objects.now) }
-{
-    let mut alarms = Alarms::new(alloc);
-    let mut rest = objects;
-    while let Some((first, more)) = rest.split_first() {
-        if is_kind(first, b"ALARM") {
-            alarms.push(alarm_of(alloc, objects, first)?)?;
-        }
-        rest = more;
-    }
-    Ok(alarms)
-}
-
-fn alarm_of(alloc: Global, objects: &[Object], object: &Object) -> Result<Alarm, Memory>
-    ensures { IfOk result (λ alarm. alarm ≡ words.alarm_of objects.now object.now) }
-{
-    let own = object.attributes.as_slice();
-    let started = start_block(own);
-    let name = name_of(alloc, object)?;
-    let modes = mode_ids(alloc, objects, started)?;
-    Ok(Alarm {
-        name,
-        counter: counter_of(objects, own),
-        task: activated_of(objects, own),
-        cycle: cycle_of(started),
-        modes,
-    })
-}
-
 fn counter_of(objects: &[Object], own: &[Attribute]) -> usize
     ensures { result ≡ words.counter_of objects.now own.now }
 {
-    id_named(objects, b"COUNTER", first_value(own, 1, b"COUNTER"))
+    id_or_zero(objects, Target::Counter, first_value(own, 1, b"COUNTER"))
 }
 
+/// The task of ACTIVATETASK.
 fn activated_of(objects: &[Object], own: &[Attribute]) -> usize
     ensures { result ≡ words.activated_of objects.now own.now }
 {
-    id_named(
-        objects,
-        b"TASK",
-        first_value(block(own, b"ACTION"), 2, b"TASK"),
-    )
+    let within = block(own, b"ACTION");
+    id_or_zero(objects, Target::Task, first_value(within, 2, b"TASK"))
 }
 
 fn cycle_of(started: &[Attribute]) -> u32
     ensures { result ≡ words.cycle_of started.now }
 {
     number_or_zero(first_value(started, 2, b"CYCLETIME"), GREATEST_TIME)
-}
-
-/// The id of the object of the kind that a value names, and 0 where there is none.
-fn id_named(objects: &[Object], kind: &[u8], value: Option<&Value>) -> usize
-    ensures { result ≡ words.id_named kind.now objects.now (option_copied value.entry) }
-{
-    match value {
-        Some(value) => id_at(objects, kind, value).unwrap_or(0),
-        None => 0,
-    }
-}
-
-fn names_of(alloc: Global, objects: &[Object], kind: &[u8]) -> Result<Names, Memory>
-    ensures { IfOk result (λ names. names ≡ words.names_of kind.now objects.now) }
-{
-    let mut names = Names::new(alloc);
-    let mut rest = objects;
-    while let Some((first, more)) = rest.split_first() {
-        if is_kind(first, kind) {
-            names.push(name_of(alloc, first)?)?;
-        }
-        rest = more;
-    }
-    Ok(names)
 }

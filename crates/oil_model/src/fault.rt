@@ -4,6 +4,7 @@ ghost use Rattle.std.specs.Prelude.{◌≡◌};
 ghost use Rattle.oil_model.specs.declared.fault.ModelFault.TheVariants.{Memory as NoMemory};
 
 use listed::Memory;
+use std::fmt::{self, Display, Formatter, Write};
 use thiserror::Error;
 
 /// What is wrong with an object of a tree: the first of these that holds of it.
@@ -26,11 +27,30 @@ pub enum ModelKind {
     Limit,
 }
 
+impl Display for ModelKind {
+    ghost use Rattle.std.specs.Prelude.{Some};
+    ghost use Rattle.oil_model.specs.Kinds.{model_word};
+
+    ghost output = { λ kind. Some (model_word kind) };
+
+    fn fmt<W: Write>(&self, f: &mut Formatter<W>) -> fmt::Result {
+        f.write_str(match self {
+            ModelKind::Twice => "Twice",
+            ModelKind::Missing => "Missing",
+            ModelKind::UnknownName => "UnknownName",
+            ModelKind::BadValue => "BadValue",
+            ModelKind::Unsupported => "Unsupported",
+            ModelKind::SamePriority => "SamePriority",
+            ModelKind::Limit => "Limit",
+        })
+    }
+}
+
 /// A refusal of `model`.
 #[derive(Debug, Drop, Error)]
 pub enum ModelFault {
     /// The tree stands for no system. Objects count from 0 in the order of the file.
-    #[error("object {object}: {kind:?}")]
+    #[error("object {object}: {kind}")]
     At { object: usize, kind: ModelKind },
     /// The allocator refused a growth.
     #[error("out of memory")]

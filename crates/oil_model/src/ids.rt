@@ -1,15 +1,14 @@
 //! Lists of ids, each once, in the order in which they are named.
 
-ghost use Rattle.std.specs.Prelude.{◌≡◌, OnOk, IfOk, option_copied, nat_eq, codes};
+ghost use Rattle.std.specs.Prelude.{◌≡◌, OnOk, IfOk, option_copied, nat_eq};
 ghost use Rattle.std.specs.List.{list_any};
-ghost use Rattle.oil_model.specs.Attributes.{word_of};
 ghost use Rattle.oil_model.specs.References as words;
 
-use crate::attribute::{is_at, word_of};
-use crate::reference::{id_of, names_internal, resource_id};
+use crate::attribute::is_at;
+use crate::reference::{Target, value_id};
 use crate::system::Ids;
 use listed::Memory;
-use oil_grammar::{Attribute, Name, Object, Value};
+use oil_grammar::{Attribute, Object, Value};
 use std::alloc::Global;
 
 fn has_id(ids: &[usize], id: usize) -> bool
@@ -28,40 +27,39 @@ fn add_once(ids: &mut Ids, id: usize) -> Result<(), Memory>
     }
 }
 
-fn shared_in(objects: &[Object], name: Option<&Name>) -> Option<usize>
-    ensures { result ≡ words.shared_in objects.now (option_copied name.entry) }
+/// The id that an attribute of this level and name has as its value.
+fn id_at(
+    objects: &[Object],
+    target: Target,
+    attribute: &Attribute,
+    level: u8,
+    name: &[u8],
+) -> Option<usize>
+    ensures { result ≡ words.id_at objects.now target level name.now attribute.now }
 {
-    let name = name?;
-    if names_internal(objects, name) {
-        None
-    } else {
-        resource_id(objects, name)
-    }
-}
-
-/// The resource that an attribute of a task names, unless it is internal.
-fn shared_at(objects: &[Object], attribute: &Attribute) -> Option<usize>
-    ensures { result ≡ words.shared_at objects.now attribute.now }
-{
-    if is_at(attribute, 1, b"RESOURCE") {
-        shared_in(objects, word_of(&attribute.value))
+    if is_at(attribute, level, name) {
+        value_id(objects, target, &attribute.value)
     } else {
         None
     }
 }
 
-/// The resources that a task names, without an internal one.
-pub(crate) fn shared_ids(
+/// The ids that the attributes of this level and name have as their values.
+pub(crate) fn ids_of(
     alloc: Global,
     objects: &[Object],
-    own: &[Attribute],
+    target: Target,
+    attributes: &[Attribute],
+    level: u8,
+    name: &[u8],
 ) -> Result<Ids, Memory>
-    ensures { IfOk result (λ ids. ids ≡ words.shared_ids objects.now own.now) }
+    ensures { IfOk result
+        (λ ids. ids ≡ words.ids_of objects.now target level name.now attributes.now) }
 {
     let mut ids = Ids::new(alloc);
-    let mut rest = own;
+    let mut rest = attributes;
     while let Some((first, more)) = rest.split_first() {
-        if let Some(id) = shared_at(objects, first) {
+        if let Some(id) = id_at(objects, target, first, level, name) {
             add_once(&mut ids, id)?;
         }
         rest = more;
@@ -69,42 +67,12 @@ pub(crate) fn shared_ids(
     Ok(ids)
 }
 
-/// The id of the object of the kind that a value names.
-pub(crate) fn id_at(objects: &[Object], kind: &[u8], value: &Value) -> Option<usize>
-    ensures { result ≡ words.id_in (words.id_of kind.now objects.now) (word_of value.now) }
+/// The id that the value names, and 0 where there is none.
+pub(crate) fn id_or_zero(objects: &[Object], target: Target, value: Option<&Value>) -> usize
+    ensures { result ≡ words.id_or_zero objects.now target (option_copied value.entry) }
 {
-    match word_of(value) {
-        Some(name) => id_of(objects, kind, name.as_slice()),
-        None => None,
+    match value {
+        Some(value) => value_id(objects, target, value).unwrap_or(0),
+        None => 0,
     }
-}
-
-/// The application mode that an attribute of a block names.
-fn mode_at(objects: &[Object], attribute: &Attribute) -> Option<usize>
-    ensures { result ≡ words.mode_at objects.now attribute.now }
-{
-    if is_at(attribute, 2, b"APPMODE") {
-        id_at(objects, b"APPMODE", &attribute.value)
-    } else {
-        None
-    }
-}
-
-/// The application modes that a block names.
-pub(crate) fn mode_ids(
-    alloc: Global,
-    objects: &[Object],
-    block: &[Attribute],
-) -> Result<Ids, Memory>
-    ensures { IfOk result (λ ids. ids ≡ words.mode_ids objects.now block.now) }
-{
-    let mut ids = Ids::new(alloc);
-    let mut rest = block;
-    while let Some((first, more)) = rest.split_first() {
-        if let Some(id) = mode_at(objects, first) {
-            add_once(&mut ids, id)?;
-        }
-        rest = more;
-    }
-    Ok(ids)
 }

@@ -1,17 +1,23 @@
 //! The first object of a tree that has a fault.
 
-ghost use Rattle.std.specs.Prelude.{◌≡◌, []};
+ghost use Rattle.std.specs.Prelude.{◌≡◌, [], IfOk};
 ghost use Rattle.std.specs.List.{list_any};
 ghost use Rattle.oil_model.specs.References as references;
 ghost use Rattle.oil_model.specs.Rules as words;
 ghost use Rattle.oil_model.specs.Meaning as meaning;
-ghost use Rattle.oil_model.specs.Answers.{shown};
+ghost use Rattle.oil_model.specs.Working.Taken.{shown};
 
 use crate::fault::ModelKind;
-use crate::object_rules::rule_fault;
-use crate::reference::{count_of, is_kind, is_named, is_scheduler_name, priority_of};
+use crate::reference::{
+    count_of, has_two_internal, internal_of, is_kind, is_non_preemptable, is_scheduler_name,
+    priority_of,
+};
 use crate::rule::{fault_if, least_of};
-use oil_grammar::Object;
+use crate::rules::attributes_fault;
+use crate::taken::{Taken, take_name};
+use listed::Memory;
+use oil_grammar::{Attribute, Object};
+use std::alloc::Global;
 
 /// A fault and the number of its object, from 0.
 #[derive(Clone, Copy)]
@@ -22,15 +28,17 @@ pub(crate) struct Place {
 
 /// The first object that has a fault, and its least kind.
 #[tactic(auto, unfolding(crate::specs::Meaning::fault_from))]
-pub(crate) fn first_fault(objects: &[Object]) -> Option<Place>
-    ensures { shown result ≡ meaning.fault_from objects.now [] objects.now }
+pub(crate) fn first_fault(alloc: Global, objects: &[Object]) -> Result<Option<Place>, Memory>
+    ensures { IfOk result (λ fault. shown fault ≡ meaning.fault_from objects.now [] objects.now) }
 {
+    let mut taken = Taken::new(alloc);
     for (i, object) in objects.iter().enumerate() {
-        if let Some(kind) = object_fault(objects, &objects[..i], object) {
-            return Some(Place { object: i, kind });
+        let is_taken = take_name(&mut taken, object)?;
+        if let Some(kind) = fault_of(objects, &objects[..i], object, is_taken) {
+            return Ok(Some(Place { object: i, kind }));
         }
     }
-    end_fault(objects)
+    Ok(end_fault(objects))
 }
 
 fn end_fault(objects: &[Object]) -> Option<Place>
@@ -52,38 +60,23 @@ fn has_kind(objects: &[Object], kind: &[u8]) -> bool
     objects.iter().any(|object| is_kind(object, kind))
 }
 
-/// The least kind of fault of an object, behind these earlier ones.
-#[tactic(auto, unfolding(crate::specs::Rules::object_fault))]
-fn object_fault(objects: &[Object], earlier: &[Object], object: &Object) -> Option<ModelKind>
-    ensures { result ≡ words.object_fault objects.now earlier.now object.now }
+/// The least kind of fault of an object, behind these earlier ones, where its name is taken or isn't.
+#[tactic(auto, unfolding(crate::specs::Rules::fault_of))]
+fn fault_of(
+    objects: &[Object],
+    earlier: &[Object],
+    object: &Object,
+    is_taken: bool,
+) -> Option<ModelKind>
+    ensures { result ≡ words.fault_of objects.now earlier.now object.now is_taken }
 {
     least_of(&[
-        name_fault(earlier, object),
-        rule_fault(objects, object),
+        fault_if(is_scheduler(object) || is_taken, ModelKind::Twice),
+        attributes_fault(objects, object),
+        inner_fault(objects, object),
         priority_fault(earlier, object),
         limit_fault(earlier, object),
     ])
-}
-
-/// Whether the object has code or activates it. Such objects share one set of names.
-fn has_code(object: &Object) -> bool
-    ensures { result ≡ words.has_code object.now }
-{
-    is_kind(object, b"TASK") || is_kind(object, b"ISR") || is_kind(object, b"ALARM")
-}
-
-/// Whether two objects can't both have their name.
-fn clashes(object: &Object, other: &Object) -> bool
-    ensures { result ≡ words.clashes object.now other.now }
-{
-    is_named(other, object.name.as_slice())
-        && (is_kind(other, object.kind.as_slice()) || (has_code(object) && has_code(other)))
-}
-
-fn has_clash(earlier: &[Object], object: &Object) -> bool
-    ensures { result ≡ list_any (words.clashes object.now) earlier.now }
-{
-    earlier.iter().any(|other| clashes(object, other))
 }
 
 fn is_scheduler(object: &Object) -> bool
@@ -92,12 +85,19 @@ fn is_scheduler(object: &Object) -> bool
     is_kind(object, b"RESOURCE") && is_scheduler_name(&object.name)
 }
 
-fn name_fault(earlier: &[Object], object: &Object) -> Option<ModelKind>
-    ensures { result ≡ words.name_fault earlier.now object.now }
+/// A task has at most one internal resource, and none where it can't be preempted.
+fn is_raised_twice(objects: &[Object], own: &[Attribute]) -> bool
+    ensures { result ≡ words.is_raised_twice objects.now own.now }
+{
+    is_non_preemptable(own) && internal_of(objects, own).is_some() || has_two_internal(objects, own)
+}
+
+fn inner_fault(objects: &[Object], object: &Object) -> Option<ModelKind>
+    ensures { result ≡ words.inner_fault objects.now object.now }
 {
     fault_if(
-        is_scheduler(object) || has_clash(earlier, object),
-        ModelKind::Twice,
+        is_kind(object, b"TASK") && is_raised_twice(objects, object.attributes.as_slice()),
+        ModelKind::BadValue,
     )
 }
 

@@ -1,11 +1,10 @@
 //! The systems that OIL trees stand for: tasks, interrupt service routines, resources with their
 //! ceilings, alarms, counters and application modes.
 //!
-//! `model` gives the system of a tree, or the first object that breaks a rule and the least kind of
-//! what it breaks. `lone_system` is the system of one task.
+//! `model(alloc, &tree)` gives the system of a tree, or the first object that breaks a rule and the
+//! least kind of what it breaks. `lone_system(alloc)` is the system of one task.
 #![tactic(auto)]
 
-mod alarm_rules;
 mod attribute;
 mod build;
 mod fault;
@@ -14,11 +13,11 @@ mod judge;
 mod lone;
 mod lookup;
 mod meaning;
-mod object_rules;
 mod reference;
 mod rule;
+mod rules;
 mod system;
-mod task_rules;
+mod taken;
 
 pub use fault::{ModelFault, ModelKind};
 pub use listed::Memory;

@@ -20,7 +20,8 @@ pub fn model(alloc: Global, tree: &Tree) -> Result<System, ModelFault>
     ensures lawful { IsWellFormed tree.now → IfOk result IsLawful }
 {
     let objects = tree.objects.as_slice();
-    match first_fault(objects) {
+    let fault = first_fault(alloc, objects)?;
+    match fault {
         Some(place) => Err(ModelFault::At {
             object: place.object,
             kind: place.kind,

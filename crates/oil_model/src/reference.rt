@@ -8,6 +8,18 @@ ghost use Rattle.oil_model.specs.References as words;
 use crate::attribute::{first_value, is_at, is_value, is_word, word_of};
 use oil_grammar::{Attribute, Name, Object, Value};
 
+/// What a name stands for.
+#[derive(Clone, Copy)]
+pub(crate) enum Target {
+    Task,
+    Counter,
+    Mode,
+    /// A declared resource or `RES_SCHEDULER`.
+    Resource,
+    /// Such a resource that isn't internal.
+    Shared,
+}
+
 pub(crate) fn is_kind(object: &Object, kind: &[u8]) -> bool
     ensures { result ≡ words.is_kind kind.now object.now }
 {
@@ -21,13 +33,13 @@ pub(crate) fn is_named(object: &Object, name: &[u8]) -> bool
 }
 
 /// The number of the object among those of its kind, from 0.
-pub(crate) fn id_of(objects: &[Object], kind: &[u8], name: &[u8]) -> Option<usize>
+fn id_of(objects: &[Object], kind: &[u8], name: &Name) -> Option<usize>
     ensures { result ≡ words.id_of kind.now objects.now name.now }
 {
     objects
         .iter()
         .filter(|object| is_kind(*object, kind))
-        .position(|object| is_named(object, name))
+        .position(|object| is_named(object, name.as_slice()))
 }
 
 pub(crate) fn is_scheduler_name(name: &Name) -> bool
@@ -37,13 +49,13 @@ pub(crate) fn is_scheduler_name(name: &Name) -> bool
 }
 
 /// The id of a resource. That of `RES_SCHEDULER` follows those of the declared ones.
-pub(crate) fn resource_id(objects: &[Object], name: &Name) -> Option<usize>
+fn resource_id(objects: &[Object], name: &Name) -> Option<usize>
     ensures { result ≡ words.resource_id objects.now name.now }
 {
     if is_scheduler_name(name) {
         Some(declared_resources(objects))
     } else {
-        id_of(objects, b"RESOURCE", name.as_slice())
+        id_of(objects, b"RESOURCE", name)
     }
 }
 
@@ -63,7 +75,7 @@ pub(crate) fn count_of(objects: &[Object], kind: &[u8]) -> usize
 }
 
 /// A number from 0 to the most. `-0` is 0.
-pub(crate) fn number_in(value: &Value, most: u32) -> Option<u32>
+fn number_in(value: &Value, most: u32) -> Option<u32>
     ensures { result ≡ words.number_in most value.now }
 {
     match value {
@@ -72,7 +84,7 @@ pub(crate) fn number_in(value: &Value, most: u32) -> Option<u32>
     }
 }
 
-fn size_in(negative: bool, size: u64, most: u32) -> Option<u32>
+pub(crate) fn size_in(negative: bool, size: u64, most: u32) -> Option<u32>
     ensures { result ≡ words.size_in most negative size }
 {
     if (!negative || size == 0) && size <= most as u64 {
@@ -101,19 +113,21 @@ pub(crate) fn priority_of(object: &Object) -> u32
     )
 }
 
+fn top_of_kind(objects: &[Object], kind: &[u8]) -> u32
+    ensures { result ≡ words.greatest (words.of_kind kind.now objects.now) }
+{
+    objects
+        .iter()
+        .filter(|object| is_kind(*object, kind))
+        .map(|task| priority_of(task))
+        .fold(0, |top, priority| top.max(priority))
+}
+
 /// The greatest priority of all tasks.
 pub(crate) fn top_priority(objects: &[Object]) -> u32
     ensures { result ≡ words.top_priority objects.now }
 {
-    let mut top = 0;
-    let mut rest = objects;
-    while let Some((first, more)) = rest.split_first() {
-        if is_kind(first, b"TASK") {
-            top = priority_of(first).max(top);
-        }
-        rest = more;
-    }
-    top
+    top_of_kind(objects, b"TASK")
 }
 
 fn names_resource(attribute: &Attribute, name: &[u8]) -> bool
@@ -140,15 +154,11 @@ fn names_a_resource(attributes: &[Attribute], name: &[u8]) -> bool
 pub(crate) fn ceiling_of(objects: &[Object], name: &[u8]) -> u32
     ensures { result ≡ words.ceiling_of objects.now name.now }
 {
-    let mut top = 0;
-    let mut rest = objects;
-    while let Some((first, more)) = rest.split_first() {
-        if takes_resource(first, name) {
-            top = priority_of(first).max(top);
-        }
-        rest = more;
-    }
-    top
+    objects
+        .iter()
+        .filter(|object| takes_resource(*object, name))
+        .map(|task| priority_of(task))
+        .fold(0, |top, priority| top.max(priority))
 }
 
 /// Whether the resource is an internal one.
@@ -174,7 +184,7 @@ fn resource_named<'a>(objects: &'a [Object], name: &[u8]) -> Option<&'a Object>
 }
 
 /// Whether an internal resource has the name.
-pub(crate) fn names_internal(objects: &[Object], name: &Name) -> bool
+fn names_internal(objects: &[Object], name: &Name) -> bool
     ensures { result ≡ words.names_internal objects.now name.now }
 {
     if is_scheduler_name(name) {
@@ -187,7 +197,7 @@ pub(crate) fn names_internal(objects: &[Object], name: &Name) -> bool
 }
 
 /// The internal resource that an attribute of a task names.
-pub(crate) fn internal_at<'a>(objects: &[Object], attribute: &'a Attribute) -> Option<&'a Name>
+fn internal_at<'a>(objects: &[Object], attribute: &'a Attribute) -> Option<&'a Name>
     ensures { option_copied result ≡ words.internal_at objects.now attribute.now }
 {
     if is_at(attribute, 1, b"RESOURCE") {
@@ -253,4 +263,28 @@ pub(crate) fn is_non_preemptable(attributes: &[Attribute]) -> bool
     ensures { result ≡ words.is_non_preemptable attributes.now }
 {
     is_value(first_value(attributes, 1, b"SCHEDULE"), b"NON")
+}
+
+/// The id that a name stands for.
+pub(crate) fn target_id(objects: &[Object], target: Target, name: &Name) -> Option<usize>
+    ensures { result ≡ words.target_id objects.now target name.now }
+{
+    match target {
+        Target::Task => id_of(objects, b"TASK", name),
+        Target::Counter => id_of(objects, b"COUNTER", name),
+        Target::Mode => id_of(objects, b"APPMODE", name),
+        Target::Resource => resource_id(objects, name),
+        Target::Shared if names_internal(objects, name) => None,
+        Target::Shared => resource_id(objects, name),
+    }
+}
+
+/// The id that a value names.
+pub(crate) fn value_id(objects: &[Object], target: Target, value: &Value) -> Option<usize>
+    ensures { result ≡ words.value_id objects.now target value.now }
+{
+    match word_of(value) {
+        Some(name) => target_id(objects, target, name),
+        None => None,
+    }
 }

@@ -1,5 +1,5 @@
 use Rattle.std.proofs.Common.{sym, subst, arith}
-use Rattle.oil_grammar.specs.Advancing.{Follows}
+use Rattle.oil_grammar.specs.Working.Advancing.{Follows}
 use Rattle.oil_grammar.specs.Faults.{IsRefusalOf}
 use Rattle.oil_grammar.proofs.Reached.{start_reached, next_reached, next_depth, done_text, blocked_fault}
 use Rattle.oil_grammar.proofs.reading.read_oil.Goals as goal

@@ -1,6 +1,6 @@
 use Rattle.std.proofs.Common.{◌+◌, ◌≤◌, length}
-use Rattle.oil_grammar.specs.Reading.{depth_of}
-use Rattle.oil_grammar.specs.Advancing.{Reached}
+use Rattle.oil_grammar.specs.Working.Reading.{depth_of}
+use Rattle.oil_grammar.specs.Working.Advancing.{Reached}
 use Rattle.oil_grammar.proofs.reading.read_oil.Given as goal
 
 abbrev pub invariant-tokens : goal.invariant-tokens

@@ -1,5 +1,0 @@
-use Rattle.oil_grammar.proofs.Named.{has_names}
-use Rattle.oil_grammar.proofs.names.well_formed_names.Goals as goal
-
-pub returns : goal.returns
-returns c = has_names

@@ -1,5 +1,0 @@
-use Rattle.oil_grammar.proofs.Texts.{one_tree}
-use Rattle.oil_grammar.proofs.reading.one_tree.Goals as goal
-
-pub returns : goal.returns
-returns c = one_tree

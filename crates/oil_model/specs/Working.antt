@@ -1,0 +1,2 @@
+-- What only the crate's private clauses cite.
+pub mod Taken
