@@ -1,0 +1,9 @@
+pub mod Contexts
+pub mod Sources
+pub mod Services
+pub mod Kernel
+pub mod Running
+pub mod Served
+pub mod Taken
+pub mod Positions
+pub mod Laws
