@@ -1,22 +1,27 @@
 -- The greatest cost of a step is small: the extra cycles of an address are at most 256 times 1,048,576.
-use Rattle.std.proofs.Common.{ℕ, ◌*◌, ◌^◌, ◌≤◌, Bool, true, false, cond, List, [], ◌∷◌, length, arith, eqb}
-use Rattle.std.specs.Prelude.{nat_le, ◌&&◌}
+use Rattle.std.proofs.Common.{◌≡◌, ℕ, ◌*◌, ◌^◌, ◌<◌, ◌≤◌, Bool, true, false, cond, List, [], ◌∷◌, length, Option, Some, None, get_or, sym, ap, subst, arith}
+use Rattle.std.specs.Prelude.{nat_le, ◌&&◌, All, slice_index}
 use Rattle.std.specs.List.{AllByRecursion}
+use Rattle.std.specs.Option.{option_map_or}
 use Rattle.std.proofs.lemmas.List.Sums.{sum_by-cons}
+use Rattle.std.proofs.lemmas.List.Elements.{recursion_from_All}
 use Rattle.rv32_decode.specs.declared.instruction.Class.{Class}
 use Rattle.rv32_decode.specs.declared.instruction.Class.TheVariants as classes
+use Rattle.osek_kernel.specs.declared.service.Service.{Service}
+use Rattle.osek_kernel.specs.declared.service.Service.TheVariants as services
+use Rattle.timing_file.specs.declared.costs.ClassCosts.{ClassCosts}
 use Rattle.timing_file.specs.declared.costs.ServiceCosts.{ServiceCosts}
 use Rattle.timing_file.specs.declared.timing.Extra.{Extra}
 use Rattle.timing_file.specs.declared.timing.Timing.{Timing}
-use Rattle.timing_file.specs.Costs.{class_cost_of, service_cost, extra_of, extra_at}
-use Rattle.timing_file.specs.Lawful.{IsExtra, AreServiceCosts, AreExtras, IsLawful}
+use Rattle.timing_file.specs.Costs.{class_cost, cost_of_class, cost_of_service, place_of_class, place_of_service, lies_in, extra_of, extra_at}
+use Rattle.timing_file.specs.Lawful.{IsExtra, IsCost, AreCosts, AreExtras, IsLawful}
 
 either_le : (test : Bool) (x y most : ℕ) → x ≤ most → y ≤ most → cond test x y ≤ most
 either_le true x y most a b = a
 either_le false x y most a b = b
 
 extra_of-le : (extra : Extra) (address : ℕ) → IsExtra extra → extra_of extra address ≤ 2 ^ 20
-extra_of-le extra address fits = either_le (nat_le extra.from address && nat_le address extra.to) extra.cycles 0 (2 ^ 20) fits.1 (omega arith)
+extra_of-le extra address fits = either_le (lies_in extra.from extra.to address) extra.cycles 0 (2 ^ 20) fits.1 (omega arith)
 
 extra_at-le : (extras : List Extra) (address : ℕ) → AllByRecursion IsExtra extras → extra_at extras address ≤ length extras * 2 ^ 20
 extra_at-le [] address each = omega arith
@@ -28,32 +33,50 @@ extra_at-le (extra ∷ more) address each =
 pub extra_at-small : (extras : List Extra) (address : ℕ) → AreExtras extras → extra_at extras address ≤ 2 ^ 28
 extra_at-small extras address are =
     let few = are.few in
-    let sum = extra_at-le extras address are.each in
+    let sum = extra_at-le extras address (recursion_from_All IsExtra extras are.each) in
     omega (arith, few, sum)
 
-pub class_cost_of-le : (timing : Timing) (class : Class) (taken : Bool) → IsLawful timing → class_cost_of timing class taken ≤ 2 ^ 20
-class_cost_of-le timing classes.Alu taken lawful = lawful.classes.alu.1
-class_cost_of-le timing classes.Mul taken lawful = lawful.classes.mul.1
-class_cost_of-le timing classes.Div taken lawful = lawful.classes.div.1
-class_cost_of-le timing classes.Load taken lawful = lawful.classes.load.1
-class_cost_of-le timing classes.Store taken lawful = lawful.classes.store.1
-class_cost_of-le timing classes.Branch true lawful = lawful.taken.1
-class_cost_of-le timing classes.Branch false lawful = lawful.classes.branch.1
-class_cost_of-le timing classes.Jump taken lawful = lawful.classes.jump.1
-class_cost_of-le timing classes.Fence taken lawful = lawful.classes.fence.1
-class_cost_of-le timing classes.System taken lawful = omega arith
+-- a cost of a table, and 0 past its end
+cost_in-le : (n : ℕ) (costs : List ℕ) (place : ℕ) → AreCosts n costs → place < n → slice_index costs place ≤ 2 ^ 20
+cost_in-le n costs place are inside = (are.each place 0 (subst (λ m. place < m) (sym are.count) inside)).1
 
-pub service_cost-le : (costs : ServiceCosts) (n : ℕ) → AreServiceCosts costs → service_cost costs n ≤ 2 ^ 20
-service_cost-le costs n are =
-    either_le (eqb n 1) _ _ (2 ^ 20) are.activate_task.1 (
-    either_le (eqb n 2) _ _ (2 ^ 20) are.terminate_task.1 (
-    either_le (eqb n 3) _ _ (2 ^ 20) are.chain_task.1 (
-    either_le (eqb n 4) _ _ (2 ^ 20) are.get_resource.1 (
-    either_le (eqb n 5) _ _ (2 ^ 20) are.release_resource.1 (
-    either_le (eqb n 6) _ _ (2 ^ 20) are.disable_all.1 (
-    either_le (eqb n 7) _ _ (2 ^ 20) are.enable_all.1 (
-    either_le (eqb n 8) _ _ (2 ^ 20) are.suspend_all.1 (
-    either_le (eqb n 9) _ _ (2 ^ 20) are.resume_all.1 (
-    either_le (eqb n 10) _ _ (2 ^ 20) are.suspend_os.1 (
-    either_le (eqb n 11) _ _ (2 ^ 20) are.resume_os.1 (
-    either_le (eqb n 12) _ _ (2 ^ 20) are.schedule.1 are.end_isr.1)))))))))))
+class_cost-le : (costs : ClassCosts) (class : Class) → AreCosts 8 costs.costs → class_cost costs class ≤ 2 ^ 20
+class_cost-le costs classes.Alu are = cost_in-le 8 costs.costs 0 are (omega arith)
+class_cost-le costs classes.Mul are = cost_in-le 8 costs.costs 1 are (omega arith)
+class_cost-le costs classes.Div are = cost_in-le 8 costs.costs 2 are (omega arith)
+class_cost-le costs classes.Load are = cost_in-le 8 costs.costs 3 are (omega arith)
+class_cost-le costs classes.Store are = cost_in-le 8 costs.costs 4 are (omega arith)
+class_cost-le costs classes.Branch are = cost_in-le 8 costs.costs 5 are (omega arith)
+class_cost-le costs classes.Jump are = cost_in-le 8 costs.costs 6 are (omega arith)
+class_cost-le costs classes.Fence are = cost_in-le 8 costs.costs 7 are (omega arith)
+class_cost-le costs classes.System are = omega arith
+
+pub cost_of_class-le : (timing : Timing) (class : Class) (taken : Bool) → IsLawful timing → cost_of_class timing class taken ≤ 2 ^ 20
+cost_of_class-le timing classes.Branch true lawful = lawful.taken.1
+cost_of_class-le timing classes.Branch false lawful = class_cost-le timing.classes classes.Branch lawful.classes
+cost_of_class-le timing classes.Alu taken lawful = class_cost-le timing.classes classes.Alu lawful.classes
+cost_of_class-le timing classes.Mul taken lawful = class_cost-le timing.classes classes.Mul lawful.classes
+cost_of_class-le timing classes.Div taken lawful = class_cost-le timing.classes classes.Div lawful.classes
+cost_of_class-le timing classes.Load taken lawful = class_cost-le timing.classes classes.Load lawful.classes
+cost_of_class-le timing classes.Store taken lawful = class_cost-le timing.classes classes.Store lawful.classes
+cost_of_class-le timing classes.Jump taken lawful = class_cost-le timing.classes classes.Jump lawful.classes
+cost_of_class-le timing classes.Fence taken lawful = class_cost-le timing.classes classes.Fence lawful.classes
+cost_of_class-le timing classes.System taken lawful = class_cost-le timing.classes classes.System lawful.classes
+
+pub cost_of_service-le : (costs : ServiceCosts) (service : Service) → AreCosts 13 costs.costs → place_of_service service < 13 → cost_of_service costs service ≤ 2 ^ 20
+cost_of_service-le costs service are inside = cost_in-le 13 costs.costs (place_of_service service) are inside
+
+pub place_inside : (service : Service) → place_of_service service < 13
+place_inside services.ActivateTask = omega arith
+place_inside services.TerminateTask = omega arith
+place_inside services.ChainTask = omega arith
+place_inside services.GetResource = omega arith
+place_inside services.ReleaseResource = omega arith
+place_inside services.DisableAllInterrupts = omega arith
+place_inside services.EnableAllInterrupts = omega arith
+place_inside services.SuspendAllInterrupts = omega arith
+place_inside services.ResumeAllInterrupts = omega arith
+place_inside services.SuspendOSInterrupts = omega arith
+place_inside services.ResumeOSInterrupts = omega arith
+place_inside services.Schedule = omega arith
+place_inside services.EndIsr = omega arith

@@ -1,5 +1,7 @@
+pub mod Bounds
 pub mod Forms
 pub mod Numbers
-pub mod Bounds
-pub mod Laws
 pub mod Names
+pub mod Lists
+pub mod Costing
+pub mod Checks

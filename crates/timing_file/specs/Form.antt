@@ -1,32 +1,37 @@
 -- The form of a timing file: which JSON type a value has where the format has one, and which keys stand.
-use Rattle.std.specs.Prelude.{ℕ, List, [], ◌∷◌, Bool, true, false, ◌&&◌, codes, option_map, unwrap_or, is_some}
+use Rattle.std.specs.Prelude.{ℕ, List, [], ◌∷◌, map, filter, if◌then◌else◌, Bool, true, false, ◌&&◌, codes, option_map, unwrap_or, is_some}
 use Rattle.std.specs.List.{list_all}
 use Rattle.serde_json.specs.Data.{Data, Members, no_members, member}
 use Rattle.serde_json.specs.Find.{get, as_object}
-use Rattle.json_fields.specs.Forms.{◌>>=◌, is_number, is_text, is_object}
+use Rattle.listed.specs.Steps.Options.{◌>>=◌}
+use Rattle.osek_kernel.specs.declared.service.Service.{Service}
+use Rattle.osek_kernel.specs.declared.service.Service.TheVariants.{Schedule}
+use Rattle.osek_kernel.specs.Services.{services, name_of}
+use Rattle.json_fields.specs.Forms.{is_number, is_text, is_object}
 use Rattle.json_fields.specs.Lists.{list_in}
 use Rattle.json_fields.specs.Numbers.{whole_in}
 use Rattle.json_fields.specs.Objects.{has_keys, has_exactly}
 
 -- ---- keys
 
--- the keys of `classes` beside `default`
+-- the keys of `classes` beside `default`, in the order of the table of classes
 abbrev pub class_keys : List (List ℕ)
 class_keys = codes "alu" ∷ codes "mul" ∷ codes "div" ∷ codes "load" ∷ codes "store" ∷ codes "branch" ∷ codes "jump" ∷ codes "fence" ∷ []
 
--- the keys of `services` beside `default`
-abbrev pub service_keys : List (List ℕ)
-service_keys = codes "ActivateTask" ∷ codes "TerminateTask" ∷ codes "ChainTask" ∷ codes "GetResource" ∷ codes "ReleaseResource" ∷ codes "DisableAllInterrupts" ∷ codes "EnableAllInterrupts" ∷ codes "SuspendAllInterrupts" ∷ codes "ResumeAllInterrupts" ∷ codes "SuspendOSInterrupts" ∷ codes "ResumeOSInterrupts" ∷ codes "EndISR" ∷ []
+-- the names of the services, in the order of their numbers; Schedule is one of version 2 alone
+abbrev pub is_first_service : Service → Bool
+is_first_service Schedule = false
+is_first_service service = true
+
+-- the keys that a file may have in these tables beside `default`, of version 2 or of version 1
+abbrev pub class_keys_of : Bool → List (List ℕ)
+class_keys_of later = if later then codes "branch_taken" ∷ class_keys else class_keys
+
+abbrev pub service_keys_of : Bool → List (List ℕ)
+service_keys_of later = if later then map name_of services else map name_of (filter is_first_service services)
 
 abbrev pub default_key : List (List ℕ)
 default_key = codes "default" ∷ []
-
--- the keys that a file of version 2 may have besides
-abbrev pub later_class_keys : List (List ℕ)
-later_class_keys = codes "branch_taken" ∷ class_keys
-
-abbrev pub later_service_keys : List (List ℕ)
-later_service_keys = codes "Schedule" ∷ service_keys
 
 -- ---- JSON types
 
@@ -46,10 +51,10 @@ has_numbers keys d = list_all (has_number d) keys
 
 -- objects with a number at each of the keys that are there
 abbrev pub is_class_table : Data → Bool
-is_class_table d = is_object d && has_numbers (codes "default" ∷ later_class_keys) d
+is_class_table d = is_object d && has_numbers default_key d && has_numbers (class_keys_of true) d
 
 abbrev pub is_service_table : Data → Bool
-is_service_table d = is_object d && has_numbers (codes "default" ∷ later_service_keys) d
+is_service_table d = is_object d && has_numbers default_key d && has_numbers (service_keys_of true) d
 
 abbrev pub are_numbers : Members → Bool
 are_numbers no_members = true
@@ -100,21 +105,14 @@ has_range_keys key d = unwrap_or (option_map (list_all (is_keyed key)) (list_in 
 abbrev pub required_keys : List (List ℕ)
 required_keys = codes "version" ∷ codes "classes" ∷ codes "services" ∷ codes "alarm" ∷ codes "interrupt" ∷ []
 
-abbrev pub optional_keys : List (List ℕ)
-optional_keys = codes "ticks" ∷ codes "distances" ∷ codes "loops" ∷ []
+abbrev pub optional_keys_of : Bool → List (List ℕ)
+optional_keys_of true = codes "extra" ∷ codes "ticks" ∷ codes "distances" ∷ codes "loops" ∷ []
+optional_keys_of false = codes "ticks" ∷ codes "distances" ∷ codes "loops" ∷ []
 
-abbrev pub later_optional_keys : List (List ℕ)
-later_optional_keys = codes "extra" ∷ optional_keys
-
-abbrev pub has_first_keys : Data → Bool
-has_first_keys d = has_keys required_keys optional_keys d && passes_at (has_keys default_key class_keys) d (codes "classes") && passes_at (has_keys default_key service_keys) d (codes "services")
-
-abbrev pub has_later_keys : Data → Bool
-has_later_keys d = has_keys required_keys later_optional_keys d && passes_at (has_keys default_key later_class_keys) d (codes "classes") && passes_at (has_keys default_key later_service_keys) d (codes "services")
-
-abbrev pub has_keys_of : Bool → Data → Bool
-has_keys_of true d = has_later_keys d
-has_keys_of false d = has_first_keys d
+unfoldable pub has_keys_of : Bool → Data → Bool
+has_keys_of later d = has_keys required_keys (optional_keys_of later) d
+    && passes_at (has_keys default_key (class_keys_of later)) d (codes "classes")
+    && passes_at (has_keys default_key (service_keys_of later)) d (codes "services")
 
 -- each key that the version asks for, and no other than it allows
 abbrev pub has_known_keys : Data → Bool

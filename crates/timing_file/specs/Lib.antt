@@ -1,6 +1,9 @@
 pub mod Costs
 pub mod Form
+pub mod Tables
+pub mod Ranges
 pub mod Timing
-pub mod Answers
 pub mod Lawful
+pub mod Names
 pub mod Unit
+pub mod Working

@@ -8,6 +8,7 @@ ghost use Rattle.json_fields.specs.Forms.{is_number};
 ghost use Rattle.json_fields.specs.Objects.{texts};
 ghost use Rattle.timing_file.specs.Form as words;
 
+use crate::keys::{class_keys_of, service_keys_of};
 use json_fields::list_in;
 use serde_json::{Map, Value};
 
@@ -48,22 +49,7 @@ fn class_costs_have_form(value: &Value) -> bool
 fn is_class_table(table: &Value) -> bool
     ensures { result ≡ words.is_class_table (view table.now) }
 {
-    table.is_object()
-        && has_numbers(
-            table,
-            &[
-                "default",
-                "branch_taken",
-                "alu",
-                "mul",
-                "div",
-                "load",
-                "store",
-                "branch",
-                "jump",
-                "fence",
-            ],
-        )
+    table.is_object() && has_numbers(table, &["default"]) && has_numbers(table, class_keys_of(true))
 }
 
 fn service_costs_have_form(value: &Value) -> bool
@@ -79,25 +65,8 @@ fn is_service_table(table: &Value) -> bool
     ensures { result ≡ words.is_service_table (view table.now) }
 {
     table.is_object()
-        && has_numbers(
-            table,
-            &[
-                "default",
-                "Schedule",
-                "ActivateTask",
-                "TerminateTask",
-                "ChainTask",
-                "GetResource",
-                "ReleaseResource",
-                "DisableAllInterrupts",
-                "EnableAllInterrupts",
-                "SuspendAllInterrupts",
-                "ResumeAllInterrupts",
-                "SuspendOSInterrupts",
-                "ResumeOSInterrupts",
-                "EndISR",
-            ],
-        )
+        && has_numbers(table, &["default"])
+        && has_numbers(table, service_keys_of(true))
 }
 
 fn number_table_at(value: &Value, key: &str) -> bool

@@ -28,59 +28,33 @@ fn is_later(value: &Value) -> bool
     }
 }
 
+#[tactic(auto, unfolding(crate::specs::Form::has_keys_of))]
 fn has_keys_of(value: &Value, later: bool) -> bool
     ensures { result ≡ words.has_keys_of later (view value.now) }
 {
+    has_keys(
+        value,
+        &["version", "classes", "services", "alarm", "interrupt"],
+        optional_keys_of(later),
+    ) && costs_at(value, "classes", class_keys_of(later))
+        && costs_at(value, "services", service_keys_of(later))
+}
+
+fn optional_keys_of(later: bool) -> &'static [&'static str]
+    ensures { objects.texts result.now ≡ words.optional_keys_of later }
+{
     if later {
-        has_later_keys(value)
+        &["extra", "ticks", "distances", "loops"]
     } else {
-        has_first_keys(value)
+        &["ticks", "distances", "loops"]
     }
 }
 
-fn has_first_keys(value: &Value) -> bool
-    ensures { result ≡ words.has_first_keys (view value.now) }
+/// The keys of the table of classes beside `default`, of version 2 or of version 1.
+pub(crate) fn class_keys_of(later: bool) -> &'static [&'static str]
+    ensures { objects.texts result.now ≡ words.class_keys_of later }
 {
-    has_keys(
-        value,
-        &["version", "classes", "services", "alarm", "interrupt"],
-        &["ticks", "distances", "loops"],
-    ) && costs_at(
-        value,
-        "classes",
-        &[
-            "alu", "mul", "div", "load", "store", "branch", "jump", "fence",
-        ],
-    ) && costs_at(
-        value,
-        "services",
-        &[
-            "ActivateTask",
-            "TerminateTask",
-            "ChainTask",
-            "GetResource",
-            "ReleaseResource",
-            "DisableAllInterrupts",
-            "EnableAllInterrupts",
-            "SuspendAllInterrupts",
-            "ResumeAllInterrupts",
-            "SuspendOSInterrupts",
-            "ResumeOSInterrupts",
-            "EndISR",
-        ],
-    )
-}
-
-fn has_later_keys(value: &Value) -> bool
-    ensures { result ≡ words.has_later_keys (view value.now) }
-{
-    has_keys(
-        value,
-        &["version", "classes", "services", "alarm", "interrupt"],
-        &["extra", "ticks", "distances", "loops"],
-    ) && costs_at(
-        value,
-        "classes",
+    if later {
         &[
             "branch_taken",
             "alu",
@@ -91,12 +65,36 @@ fn has_later_keys(value: &Value) -> bool
             "branch",
             "jump",
             "fence",
-        ],
-    ) && costs_at(
-        value,
-        "services",
+        ]
+    } else {
         &[
+            "alu", "mul", "div", "load", "store", "branch", "jump", "fence",
+        ]
+    }
+}
+
+/// The keys of the table of services beside `default`, of version 2 or of version 1.
+pub(crate) fn service_keys_of(later: bool) -> &'static [&'static str]
+    ensures { objects.texts result.now ≡ words.service_keys_of later }
+{
+    if later {
+        &[
+            "ActivateTask",
+            "TerminateTask",
+            "ChainTask",
+            "GetResource",
+            "ReleaseResource",
+            "DisableAllInterrupts",
+            "EnableAllInterrupts",
+            "SuspendAllInterrupts",
+            "ResumeAllInterrupts",
+            "SuspendOSInterrupts",
+            "ResumeOSInterrupts",
             "Schedule",
+            "EndISR",
+        ]
+    } else {
+        &[
             "ActivateTask",
             "TerminateTask",
             "ChainTask",
@@ -109,8 +107,8 @@ fn has_later_keys(value: &Value) -> bool
             "SuspendOSInterrupts",
             "ResumeOSInterrupts",
             "EndISR",
-        ],
-    )
+        ]
+    }
 }
 
 fn costs_at(value: &Value, key: &str, optional: &[&str]) -> bool

@@ -1,4 +1,6 @@
 use super::*;
+use listed::Fault;
+use osek_kernel::Service;
 use rv32_decode::Class;
 use std::test::*;
 
@@ -10,7 +12,7 @@ const LATER: &str =
 
 fn kind_of(answer: Result<Timing, TimingFault>) -> Option<TimingKind> {
     match answer {
-        Err(TimingFault::Kind(kind)) => Some(kind),
+        Err(Fault::Kind(kind)) => Some(kind),
         _ => None,
     }
 }
@@ -19,55 +21,37 @@ fn kind_of(answer: Result<Timing, TimingFault>) -> Option<TimingKind> {
 fn costs_of_both_versions(rt: HostRuntime) -> Result<(), Fail> {
     let first = read_timing(rt.alloc(), FIRST.as_bytes());
     let first = first.ok().ok_or("a timing")?;
-    assert_eq!(rt; first.services.cost(2), 20);
-    assert_eq!(rt; first.services.cost(12), 20);
+    assert_eq!(rt; first.services.cost(Service::TerminateTask), 20);
+    assert_eq!(rt; first.services.cost(Service::Schedule), 20);
     assert_eq!(rt; first.classes.cost(Class::System), 0);
     assert_eq!(rt; first.taken, 1);
-    assert_eq!(rt; first.ticks.len(), 1);
+    assert_eq!(rt; first.ticks_of(b"C"), Some(1));
     let later = read_timing(rt.alloc(), LATER.as_bytes());
     let later = later.ok().ok_or("a timing")?;
-    assert_eq!(rt; later.services.cost(12), 7);
-    assert_eq!(rt; later.distances.len(), 2);
+    assert_eq!(rt; later.services.cost(Service::Schedule), 7);
+    assert_eq!(rt; later.distance_of(b"I"), Some(4));
+    assert_eq!(rt; later.ticks_of(b"I"), None);
     assert_eq!(rt; later.loops.len(), 1);
     assert_eq!(rt; later.extra.len(), 2);
     Ok(())
 }
 
+#[rattlefmt::skip]
 const FAULTS: [(&str, &str, TimingKind); 14] = [
     ("{\"version\":1,", "{\"version\":1,,", TimingKind::Json),
     ("\"alarm\":30", "\"alarm\":\"30\"", TimingKind::Shape),
     ("\"ticks\":{\"C\":1}", "\"ticks\":[1]", TimingKind::Shape),
-    (
-        "{\"version\":1,",
-        "{\"extra\":1,\"version\":1,",
-        TimingKind::Shape,
-    ),
-    (
-        "{\"version\":1,",
-        "{\"extra\":[],\"version\":1,",
-        TimingKind::Key,
-    ),
+    ("{\"version\":1,", "{\"extra\":1,\"version\":1,", TimingKind::Shape),
+    ("{\"version\":1,", "{\"extra\":[],\"version\":1,", TimingKind::Key),
     ("\"alarm\":30", "\"alert\":0", TimingKind::Key),
-    (
-        "{\"default\":1}",
-        "{\"default\":1,\"branch_taken\":2}",
-        TimingKind::Key,
-    ),
-    (
-        "{\"default\":20}",
-        "{\"default\":20,\"Schedule\":2}",
-        TimingKind::Key,
-    ),
+    ("{\"default\":1}", "{\"default\":1,\"branch_taken\":2}", TimingKind::Key),
+    ("{\"default\":20}", "{\"default\":20,\"Schedule\":2}", TimingKind::Key),
     ("{\"default\":20}", "{\"EndISR\":20}", TimingKind::Key),
     ("\"alarm\":30", "\"alarm\":0", TimingKind::Range),
     ("\"version\":1", "\"version\":3", TimingKind::Range),
     ("\"version\":1", "\"version\":1.0", TimingKind::Range),
     ("{\"C\":1}", "{\"C\":2147483648}", TimingKind::Range),
-    (
-        "{\"default\":1}",
-        "{\"default\":1,\"div\":1048577}",
-        TimingKind::Range,
-    ),
+    ("{\"default\":1}", "{\"default\":1,\"div\":1048577}", TimingKind::Range),
 ];
 
 #[test]
@@ -85,20 +69,13 @@ fn each_kind_of_fault(rt: HostRuntime) -> Result<(), Fail> {
     Ok(())
 }
 
+#[rattlefmt::skip]
 const RANGES: [(&str, &str, TimingKind); 5] = [
     ("\"from\":\"0x100\"", "\"from\":\"100\"", TimingKind::Range),
-    (
-        "\"from\":\"0x100\"",
-        "\"from\":\"0x102\"",
-        TimingKind::Range,
-    ),
+    ("\"from\":\"0x100\"", "\"from\":\"0x102\"", TimingKind::Range),
     ("\"to\":\"0x108\"", "\"to\":\"0xfc\"", TimingKind::Range),
     ("\"bound\":4", "\"bound\":4,\"at\":1", TimingKind::Key),
-    (
-        "{\"from\":\"0x104\",\"to\":\"0x10C\"",
-        "{\"from\":\"0x100\",\"to\":\"0x104\"",
-        TimingKind::Twice,
-    ),
+    ("{\"from\":\"0x104\",\"to\":\"0x10C\"", "{\"from\":\"0x100\",\"to\":\"0x104\"", TimingKind::Twice),
 ];
 
 #[test]
@@ -118,9 +95,14 @@ fn greatest_costs_where_extras_overlap(rt: HostRuntime) -> Result<(), Fail> {
     let timing = timing.ok().ok_or("a timing")?;
     assert_eq!(rt; timing.insn(Class::Branch, true, 0x104), 14);
     assert_eq!(rt; timing.insn(Class::Branch, false, 0x10c), 8);
-    assert_eq!(rt; timing.service(12, 0x100), 12);
+    assert_eq!(rt; timing.service(Service::Schedule, 0x100), 12);
+    Ok(())
+}
+
+#[test]
+fn costs_of_the_unit_timing(rt: HostRuntime) -> Result<(), Fail> {
     let unit = unit_timing(rt.alloc())?;
     assert_eq!(rt; unit.insn(Class::Branch, true, 0), 1);
-    assert_eq!(rt; unit.service(2, 0), 10);
+    assert_eq!(rt; unit.service(Service::TerminateTask, 0), 10);
     Ok(())
 }

@@ -10,10 +10,10 @@ pub type Name = ListedNumbers<u8>;
 pub type NamedNumbers = Listed<NamedNumber>;
 
 /// Loops in the order of the file.
-pub type Loops = ListedNumbers<Loop>;
+pub type Loops = Listed<Loop>;
 
 /// Extra cycles in the order of the file.
-pub type Extras = ListedNumbers<Extra>;
+pub type Extras = Listed<Extra>;
 
 /// A name, and a number of cycles or of ticks.
 #[derive(Debug, Drop)]

@@ -15,31 +15,8 @@ pub fn unit_timing(alloc: Global) -> Result<Timing, Memory>
     ensures value { IfOk result (λ timing. timing ≡ the_unit_timing) }
     ensures lawful { IfOk result IsLawful }
 {
-    let classes = ClassCosts {
-        alu: 1,
-        mul: 1,
-        div: 1,
-        load: 1,
-        store: 1,
-        branch: 1,
-        jump: 1,
-        fence: 1,
-    };
-    let services = ServiceCosts {
-        activate_task: 10,
-        terminate_task: 10,
-        chain_task: 10,
-        get_resource: 10,
-        release_resource: 10,
-        disable_all: 10,
-        enable_all: 10,
-        suspend_all: 10,
-        resume_all: 10,
-        suspend_os: 10,
-        resume_os: 10,
-        schedule: 10,
-        end_isr: 10,
-    };
+    let classes = ClassCosts { costs: [1; 8] };
+    let services = ServiceCosts { costs: [10; 13] };
     Ok(Timing {
         classes,
         services,
