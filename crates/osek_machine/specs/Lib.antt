@@ -1,0 +1,10 @@
+pub mod State
+pub mod Events
+pub mod Steps
+pub mod Room
+pub mod Runs
+pub mod Loops
+pub mod Declarations
+pub mod Activations
+pub mod Stuck
+pub mod Laws
