@@ -1,0 +1,6 @@
+pub mod Graph
+pub mod Faults
+pub mod Standing
+pub mod Walks
+pub mod Judging
+pub mod Cases
