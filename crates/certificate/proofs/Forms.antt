@@ -8,7 +8,7 @@ use Rattle.serde_json.specs.Data.{Data}
 use Rattle.serde_json.specs.View.{view}
 use Rattle.serde_json.specs.declared.value.Value.{Value}
 use Rattle.json_fields.specs.Lists.{list_in}
-use Rattle.certificate.specs.States.{is_list_with}
+use Rattle.certificate.specs.Form.{is_list_with}
 
 pub is_list_with-view : (fits : ℕ → Bool) (test : Data → Bool) (d : Data) (vs : List Value) → Some (map view vs) ≡ list_in d
     → is_list_with fits test d ≡ (fits (length vs) && list_all (λ v. test (view v)) vs)

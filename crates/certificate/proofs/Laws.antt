@@ -1,30 +1,31 @@
 -- A state that is read fits the system, and a certificate that is read is within its limits.
-use Rattle.std.proofs.Common.{◌≡◌, ℕ, zero, suc, ◌^◌, ◌<◌, Bool, true, false, cond, List, [], ◌∷◌, length, Option, Some, None, option_map, Result, Ok, Err, refl, ap, subst, ◌∙◌, arith, eqb}
-use Rattle.std.specs.Prelude.{slice_get, bytes_eq, IfOk, IfSome, nat_eq, nat_lt, ◌&&◌}
+use Rattle.std.proofs.Common.{◌≡◌, ℕ, zero, suc, ◌^◌, ◌<◌, ◌≤◌, Bool, true, false, cond, List, [], ◌∷◌, length, Option, Some, None, Result, Ok, Err, refl, ap, ◌∙◌, subst, arith, eqb}
+use Rattle.std.specs.Prelude.{slice_get, bytes_eq, IfOk, IfSome, nat_eq, nat_lt, ok_or, ◌&&◌}
 use Rattle.std.specs.List.{AllByRecursion}
 use Rattle.std.proofs.lemmas.Bool.{ltb-true, eqb-true}
 use Rattle.serde_json.specs.Data.{Data}
-use Rattle.json_fields.specs.Lists.{list_in, all_of, each_from, differ}
-use Rattle.json_fields.specs.Numbers.{digits_in, digits_below}
-use Rattle.json_fields.proofs.Laws.{bind_some, and_then_some, map_some, passed, not_refused, same_some, all_of-all, whole_in-range, digits_in-lt, digits_below-lt}
-use Rattle.certificate.specs.Answers.{GivesCert, GivesStates}
-use Rattle.certificate.specs.declared.fault.CertFault.{CertFault}
-use Rattle.certificate.specs.declared.fault.StatesFault.{StatesFault}
-use Rattle.certificate.specs.Certificate.{or_kind, state_list, states_in, CertParts, cert_parts, cert_numbers, cert_in}
-use Rattle.certificate.specs.declared.cert.Cert.{Cert}
+use Rattle.listed.specs.Faults.{told_as}
+use Rattle.listed.specs.Lists.{all_of, each_from, differ, AllFrom}
+use Rattle.listed.specs.Steps.Options as options
+use Rattle.listed.proofs.Answered.{IfOk-step, IfOk-each_from, IfOk-each_from_length, IfOk-all_of}
+use Rattle.json_fields.specs.Lists.{list_in}
+use Rattle.json_fields.specs.Numbers.{digits_below}
+use Rattle.json_fields.proofs.Laws.{IfOk-ok_or, IfOk-test, bind_some, passed, not_refused, same_some, whole_in-range, digits_in-lt, digits_below-lt}
+use Rattle.osek_kernel.specs.declared.context.Context.{Context}
+use Rattle.osek_kernel.specs.declared.context.Context.TheVariants.{Task, Isr}
+use Rattle.abstract_sched.specs.declared.rules.StateRules.{StateRules}
+use Rattle.abstract_sched.specs.declared.states.IsrAt.{IsrAt}
+use Rattle.abstract_sched.specs.declared.states.TaskAt.{TaskAt}
+use Rattle.abstract_sched.specs.Fits.{IsId, IsBlockOf, FitsTask, FitsIsr, FitsRules, AreLawful}
+use Rattle.abstract_sched.specs.States.{same_state}
 use Rattle.certificate.specs.declared.fault.CertKind.TheVariants as cert_kinds
 use Rattle.certificate.specs.declared.fault.StatesKind.TheVariants as states_kinds
 use Rattle.certificate.specs.declared.read.CertNumbers.{CertNumbers}
-use Rattle.certificate.specs.declared.rules.Context.{Context}
-use Rattle.certificate.specs.declared.rules.Context.TheVariants.{Task, Isr}
-use Rattle.certificate.specs.declared.rules.StateRules.{StateRules}
-use Rattle.certificate.specs.declared.states.AbsState.{AbsState}
-use Rattle.certificate.specs.declared.states.IsrAt.{IsrAt}
-use Rattle.certificate.specs.declared.states.TaskAt.{TaskAt}
-use Rattle.certificate.specs.declared.states.TaskAt.TheVariants.{Suspended, At}
-use Rattle.json_fields.specs.Forms.{◌>>=◌}
-use Rattle.certificate.specs.States.{StateParts, state_parts, number_in, id_below, flag_in, depth_in, same_context, block_of, inner_of, held_of, task_at, task_of, tasks_of, isr_at, state_of_parts, state_of, states_of, same_state}
-use Rattle.certificate.specs.Fits.{IsId, IsBlockOf, FitsAt, FitsTask, FitTasks, FitsIsr, FitsRules, AreLawful, IsLawful}
+use Rattle.certificate.specs.Certificate.{multiplier_in, cert_numbers, cert_in}
+use Rattle.certificate.specs.Form.{StateParts, CertParts, state_parts, state_list, cert_parts}
+use Rattle.certificate.specs.Lawful.{IsLawful}
+use Rattle.certificate.specs.Parts.{number_in, id_below, flag_in, depth_in, same_context, block_of, inner_of, isr_at}
+use Rattle.certificate.specs.States.{held_id, held_of, task_at, task_of, tasks_of, state_of_parts, state_of, states_of, states_in}
 
 number_in-id : (d : Data) (n : ℕ) → number_in d ≡ Some n → IsId n
 number_in-id d n is = omega (arith, whole_in-range 0 4294967295 d n is)
@@ -45,7 +46,7 @@ same_context-true (Isr a) (Isr b) is = ap Isr (eqb-true a b is)
 block_of-block : (rules : StateRules) (context : Context) (d : Data) (n : ℕ) → block_of rules context d ≡ Some n → IsBlockOf rules context n
 unfolding block_of
 block_of-block rules context d n is =
-    let read = bind_some (number_in d) (λ block. slice_get rules.owners block >>= λ owner. cond (same_context owner context) (Some block) None) n is in
+    let read = bind_some (number_in d) (λ block. options.◌>>=◌ (slice_get rules.owners block) (λ owner. cond (same_context owner context) (Some block) None)) n is in
     let owner = bind_some (slice_get rules.owners read.0) (λ owner. cond (same_context owner context) (Some read.0) None) n read.2 in
     let test = passed (same_context owner.0 context) (Some read.0) n owner.2 in
     let same = same_some read.0 n test.1 in
@@ -64,58 +65,58 @@ inner_of-allowed false d inner is on =
     is_on true a b = cc
     is_on false a b = cc
 
-held_of-held : (rules : StateRules) (ds : List Data) (ids : List ℕ) → held_of rules ds ≡ Some ids → AllByRecursion (λ id. (id < rules.resources) × IsId id) ids × (differ nat_eq ids ≡ true)
+held_of-held : (rules : StateRules) (ds : List Data) → IfOk (held_of rules ds) (λ ids. AllByRecursion (λ id. (id < rules.resources) × IsId id) ids × (differ nat_eq ids ≡ true))
 unfolding held_of
-held_of-held rules ds ids is =
-    let read = bind_some (all_of (id_below rules.resources) ds) (λ found. cond (differ nat_eq found) (Some found) None) ids is in
-    let test = passed (differ nat_eq read.0) (Some read.0) ids read.2 in
-    let same = same_some read.0 ids test.1 in
-    subst (λ (found : List ℕ). AllByRecursion (λ id. (id < rules.resources) × IsId id) found × (differ nat_eq found ≡ true)) same
-    (all_of-all (id_below rules.resources) (λ id. (id < rules.resources) × IsId id) (id_below-lt rules.resources) ds read.0 read.1, test.0)
+held_of-held rules ds =
+    IfOk-step (AllByRecursion (λ id. (id < rules.resources) × IsId id)) _ (all_of (held_id rules) ds) _
+    (IfOk-all_of (held_id rules) (λ id. (id < rules.resources) × IsId id) (λ d. IfOk-ok_or _ _ _ (id_below-lt rules.resources d)) 0 ds)
+    (λ ids below. IfOk-test _ (differ nat_eq ids) ids _ (λ once. (below, once)))
 
-task_at-fits : (rules : StateRules) (task : ℕ) (has_inner : Bool) → slice_get rules.inner task ≡ Some has_inner → (ds : List Data) (t : TaskAt) → task_at rules task has_inner ds ≡ Some t → FitsTask rules task t
+task_at-fits : (rules : StateRules) (task : ℕ) (has_inner : Bool) → slice_get rules.inner task ≡ Some has_inner → (ds : List Data) → IfOk (task_at rules task has_inner ds) (FitsTask rules task)
 unfolding task_at
-task_at-fits rules task has_inner flag [] t is = subst (FitsTask rules task) (same_some Suspended t is) tt
-task_at-fits rules task has_inner flag (only ∷ []) t is = absurd cc
-task_at-fits rules task has_inner flag (first ∷ second ∷ rest) t is =
-    let block = bind_some (block_of rules (Task task) first) (λ block. inner_of has_inner second >>= λ inner. held_of rules rest >>= λ held. Some (At block inner held)) t is in
-    let inner = bind_some (inner_of has_inner second) (λ inner. held_of rules rest >>= λ held. Some (At block.0 inner held)) t block.2 in
-    let held = bind_some (held_of rules rest) (λ held. Some (At block.0 inner.0 held)) t inner.2 in
-    let parts = held_of-held rules rest held.0 held.1 in
-    let fits : FitsAt rules task block.0 inner.0 held.0 = record {
-      at_block = block_of-block rules (Task task) first block.0 block.1;
-      has_inner = λ on. flag ∙ ap Some (inner_of-allowed has_inner second inner.0 inner.1 on);
-      resources = parts.0;
-      once = parts.1;
-    } in
-    subst (FitsTask rules task) (same_some (At block.0 inner.0 held.0) t held.2) fits
+task_at-fits rules task has_inner flag [] = tt
+task_at-fits rules task has_inner flag (only ∷ []) = tt
+task_at-fits rules task has_inner flag (first ∷ second ∷ rest) =
+    IfOk-step (IsBlockOf rules (Task task)) _ (ok_or (block_of rules (Task task) first) states_kinds.State) _ (IfOk-ok_or _ _ _ (block_of-block rules (Task task) first)) (λ block at.
+    IfOk-step (λ inner. inner ≡ true → has_inner ≡ true) _ (ok_or (inner_of has_inner second) states_kinds.State) _ (IfOk-ok_or _ _ _ (inner_of-allowed has_inner second)) (λ inner allowed.
+    IfOk-step (λ ids. AllByRecursion (λ id. (id < rules.resources) × IsId id) ids × (differ nat_eq ids ≡ true)) _ (held_of rules rest) _ (held_of-held rules rest) (λ held holds. record {
+      at_block = at;
+      has_inner = λ on. flag ∙ ap Some (allowed on);
+      resources = holds.0;
+      once = holds.1;
+    })))
 
-task_of-fits : (rules : StateRules) (task : ℕ) (d : Data) (t : TaskAt) → task_of rules task d ≡ Some t → FitsTask rules task t
-task_of-fits rules task d t is =
-    let flag = bind_some (slice_get rules.inner task) (λ has_inner. list_in d >>= λ ds. task_at rules task has_inner ds) t is in
-    let members = bind_some (list_in d) (λ ds. task_at rules task flag.0 ds) t flag.2 in
-    task_at-fits rules task flag.0 flag.1 members.0 t members.2
+task_of-fits : (rules : StateRules) (task : ℕ) (d : Data) → IfOk (task_of rules task d) (FitsTask rules task)
+task_of-fits rules task d =
+    IfOk-step (λ has_inner. slice_get rules.inner task ≡ Some has_inner) _ (ok_or (slice_get rules.inner task) states_kinds.State) _ (IfOk-ok_or _ _ _ (λ _ is. is)) (λ has_inner flag.
+    IfOk-step (λ _. Unit {0}) _ (ok_or (list_in d) states_kinds.State) _ (IfOk-ok_or _ _ _ (λ _ _. tt)) (λ ds _. task_at-fits rules task has_inner flag ds))
 
-each_task-fits : (rules : StateRules) (task : ℕ) (ds : List Data) (ts : List TaskAt) → each_from (task_of rules) task ds ≡ Some ts → FitTasks rules task ts × (length ts ≡ length ds)
-each_task-fits rules task [] ts is = subst (λ (found : List TaskAt). FitTasks rules task found × (length found ≡ 0)) (same_some [] ts is) (tt, refl)
-each_task-fits rules task (d ∷ ds) ts is =
-    let first = and_then_some (task_of rules task d) (λ t. option_map (λ more. t ∷ more) (each_from (task_of rules) (suc task) ds)) ts is in
-    let others = map_some (each_from (task_of rules) (suc task) ds) (λ more. first.0 ∷ more) ts first.2 in
-    let rest = each_task-fits rules (suc task) ds others.0 others.1 in
-    subst (λ (found : List TaskAt). FitTasks rules task found × (length found ≡ suc (length ds))) others.2 ((task_of-fits rules task d first.0 first.1, rest.0), ap suc rest.1)
+-- what holds by one fact and what holds by another hold together
+both_hold : {A K : Type 0} (P Q : A → Type 0) (r : Result A K) → IfOk r P → IfOk r Q → IfOk r (λ x. P x × Q x)
+both_hold P Q (Ok x) p q = (p, q)
+both_hold P Q (Err e) p q = tt
 
-tasks_of-fit : (rules : StateRules) (ds : List Data) (ts : List TaskAt) → tasks_of rules ds ≡ Some ts → FitTasks rules 0 ts × (length ts ≡ length rules.inner)
-tasks_of-fit rules ds ts is =
-    let test = passed (eqb (length ds) (length rules.inner)) (each_from (task_of rules) 0 ds) ts is in
-    let each = each_task-fits rules 0 ds ts test.1 in
-    (each.0, each.1 ∙ eqb-true _ _ test.0)
+abbrev FitTasks : StateRules → List TaskAt → Type 0
+FitTasks rules tasks = AllFrom (FitsTask rules) 0 tasks × (length tasks ≡ length rules.inner)
+
+tasks_of-fit : (rules : StateRules) (ds : List Data) → IfOk (tasks_of rules ds) (FitTasks rules)
+tasks_of-fit rules ds = at (eqb (length ds) (length rules.inner)) (eqb-true _ _)
+  where
+    read : length ds ≡ length rules.inner → IfOk (each_from (task_of rules) 0 ds) (FitTasks rules)
+    read many = subst (λ n. IfOk (each_from (task_of rules) 0 ds) (λ tasks. AllFrom (FitsTask rules) 0 tasks × (length tasks ≡ n))) many
+        (both_hold (AllFrom (FitsTask rules) 0) (λ tasks. length tasks ≡ length ds) (each_from (task_of rules) 0 ds)
+        (IfOk-each_from (task_of rules) (FitsTask rules) (task_of-fits rules) 0 ds) (IfOk-each_from_length (task_of rules) 0 ds))
+
+    at : (test : Bool) → (test ≡ true → length ds ≡ length rules.inner) → IfOk (cond test (each_from (task_of rules) 0 ds) (Err states_kinds.State)) (FitTasks rules)
+    at true many = read (many refl)
+    at false many = tt
 
 isr_at-fits : (rules : StateRules) (ds : List Data) (isr : Option IsrAt) → isr_at rules ds ≡ Some isr → IfSome isr (FitsIsr rules)
 unfolding isr_at
 isr_at-fits rules [] isr is = subst (λ (found : Option IsrAt). IfSome found (FitsIsr rules)) (same_some None isr is) tt
 isr_at-fits rules (only ∷ []) isr is = absurd cc
 isr_at-fits rules (first ∷ second ∷ []) isr is =
-    let id = bind_some (id_below rules.isrs first) (λ n. block_of rules (Isr n) second >>= λ block. Some (Some (record { isr = n; block = block }))) isr is in
+    let id = bind_some (id_below rules.isrs first) (λ n. options.◌>>=◌ (block_of rules (Isr n) second) (λ block. Some (Some (record { isr = n; block = block })))) isr is in
     let block = bind_some (block_of rules (Isr id.0) second) (λ block. Some (Some (record { isr = id.0; block = block }))) isr id.2 in
     let below = id_below-lt rules.isrs first id.0 id.1 in
     let at : IsrAt = record { isr = id.0; block = block.0 } in
@@ -123,97 +124,68 @@ isr_at-fits rules (first ∷ second ∷ []) isr is =
     subst (λ (found : Option IsrAt). IfSome found (FitsIsr rules)) (same_some (Some at) isr block.2) fits
 isr_at-fits rules (first ∷ second ∷ third ∷ rest) isr is = absurd cc
 
+state_of_parts-fits : (rules : StateRules) (parts : StateParts) → IfOk (state_of_parts rules parts) (FitsRules rules)
+unfolding state_of_parts
+state_of_parts-fits rules parts =
+    IfOk-step (λ mode. (mode < rules.modes) × IsId mode) _ (ok_or (id_below rules.modes parts.mode) states_kinds.State) _ (IfOk-ok_or _ _ _ (id_below-lt rules.modes parts.mode)) (λ mode mode_fits.
+    IfOk-step (λ _. Unit {0}) _ (ok_or (list_in parts.tasks) states_kinds.State) _ (IfOk-ok_or _ _ _ (λ _ _. tt)) (λ members _.
+    IfOk-step (FitTasks rules) _ (tasks_of rules members) _ (tasks_of-fit rules members) (λ tasks tasks_fit.
+    IfOk-step (λ _. Unit {0}) _ (ok_or (list_in parts.isr) states_kinds.State) _ (IfOk-ok_or _ _ _ (λ _ _. tt)) (λ pair _.
+    IfOk-step (λ isr. IfSome isr (FitsIsr rules)) _ (ok_or (isr_at rules pair) states_kinds.State) _ (IfOk-ok_or _ _ _ (isr_at-fits rules pair)) (λ isr isr_fits.
+    IfOk-step (λ _. Unit {0}) _ (ok_or (flag_in parts.disable) states_kinds.State) _ (IfOk-ok_or _ _ _ (λ _ _. tt)) (λ disabled _.
+    IfOk-step (λ depth. (0 ≤ depth) × (depth ≤ 7)) _ (ok_or (depth_in parts.suspend) states_kinds.State) _ (IfOk-ok_or _ _ _ (whole_in-range 0 7 parts.suspend)) (λ suspended depth. record {
+      mode = mode_fits;
+      count = tasks_fit.1;
+      tasks = tasks_fit.0;
+      isr = isr_fits;
+      suspended = depth.1;
+    })))))))
+
+state_of-fits : (rules : StateRules) (d : Data) → IfOk (state_of rules d) (FitsRules rules)
+state_of-fits rules d =
+    IfOk-step (λ _. Unit {0}) _ (ok_or (state_parts d) states_kinds.State) _ (IfOk-ok_or _ _ _ (λ _ _. tt)) (λ parts _. state_of_parts-fits rules parts)
+
+states_of-lawful : (rules : StateRules) (ds : List Data) → IfOk (states_of rules ds) (AreLawful rules)
+states_of-lawful rules ds =
+    IfOk-step (AllByRecursion (FitsRules rules)) _ (all_of (state_of rules) ds) _ (IfOk-all_of (state_of rules) (FitsRules rules) (state_of-fits rules) 0 ds)
+    (λ states fit. IfOk-test (AreLawful rules) (differ same_state states) states _ (λ once. record { fit = fit; once = once }))
+
+pub states_in-lawful : (rules : StateRules) (d : Data) → IfOk (states_in rules d) (AreLawful rules)
+states_in-lawful rules d =
+    IfOk-step (λ _. Unit {0}) _ (ok_or (state_list d) states_kinds.Shape) _ (IfOk-ok_or _ _ _ (λ _ _. tt)) (λ ds _. states_of-lawful rules ds)
+
 positive : (n : ℕ) → eqb n 0 ≡ false → 0 < n
 positive zero is = absurd cc
 positive (suc n) is = omega arith
 
-state_of_parts-fits : (rules : StateRules) (parts : StateParts) (s : AbsState) → state_of_parts rules parts ≡ Some s → FitsRules rules s
-unfolding state_of_parts
-state_of_parts-fits rules parts s is =
-    let mode = bind_some (id_below rules.modes parts.mode) (λ mode. (list_in parts.tasks >>= tasks_of rules) >>= λ tasks. (list_in parts.isr >>= isr_at rules) >>= λ isr. flag_in parts.disable >>= λ disabled. depth_in parts.suspend >>= λ suspended. Some (record { mode = mode; tasks = tasks; isr = isr; disabled = disabled; suspended = suspended })) s is in
-    let tasks = bind_some (list_in parts.tasks >>= tasks_of rules) (λ tasks. (list_in parts.isr >>= isr_at rules) >>= λ isr. flag_in parts.disable >>= λ disabled. depth_in parts.suspend >>= λ suspended. Some (record { mode = mode.0; tasks = tasks; isr = isr; disabled = disabled; suspended = suspended })) s mode.2 in
-    let isr = bind_some (list_in parts.isr >>= isr_at rules) (λ isr. flag_in parts.disable >>= λ disabled. depth_in parts.suspend >>= λ suspended. Some (record { mode = mode.0; tasks = tasks.0; isr = isr; disabled = disabled; suspended = suspended })) s tasks.2 in
-    let disabled = bind_some (flag_in parts.disable) (λ disabled. depth_in parts.suspend >>= λ suspended. Some (record { mode = mode.0; tasks = tasks.0; isr = isr.0; disabled = disabled; suspended = suspended })) s isr.2 in
-    let suspended = bind_some (depth_in parts.suspend) (λ suspended. Some (record { mode = mode.0; tasks = tasks.0; isr = isr.0; disabled = disabled.0; suspended = suspended })) s disabled.2 in
-    let members = bind_some (list_in parts.tasks) (tasks_of rules) tasks.0 tasks.1 in
-    let each = tasks_of-fit rules members.0 tasks.0 members.2 in
-    let pair = bind_some (list_in parts.isr) (isr_at rules) isr.0 isr.1 in
-    let state : AbsState = record { mode = mode.0; tasks = tasks.0; isr = isr.0; disabled = disabled.0; suspended = suspended.0 } in
-    let fits : FitsRules rules state = record {
-      mode = id_below-lt rules.modes parts.mode mode.0 mode.1;
-      count = each.1;
-      tasks = each.0;
-      isr = isr_at-fits rules pair.0 isr.0 pair.2;
-      suspended = (whole_in-range 0 7 parts.suspend suspended.0 suspended.1).1;
-    } in
-    subst (FitsRules rules) (same_some state s suspended.2) fits
-
-pub state_of-fits : (rules : StateRules) (d : Data) (s : AbsState) → state_of rules d ≡ Some s → FitsRules rules s
-state_of-fits rules d s is =
-    let parts = bind_some (state_parts d) (state_of_parts rules) s is in
-    state_of_parts-fits rules parts.0 s parts.2
-
-pub states_of-lawful : (rules : StateRules) (ds : List Data) (states : List AbsState) → states_of rules ds ≡ Some states → AreLawful rules states
-unfolding states_of
-states_of-lawful rules ds states is =
-    let read = bind_some (all_of (state_of rules) ds) (λ found. cond (differ same_state found) (Some found) None) states is in
-    let test = passed (differ same_state read.0) (Some read.0) states read.2 in
-    subst (AreLawful rules) (same_some read.0 states test.1) (record {
-      fit = all_of-all (state_of rules) (FitsRules rules) (state_of-fits rules) ds read.0 read.1;
-      once = test.0;
-    })
-
-or_kind_ok : {A B K : Type 0} (kind : K) (o : Option A) (next : A → Result B K) (y : B) → or_kind kind o next ≡ Ok y → (x : A) × (o ≡ Some x) × (next x ≡ Ok y)
-or_kind_ok kind None next y is = absurd cc
-or_kind_ok kind (Some x) next y is = (x, refl, is)
-
-same_ok : {A K : Type 0} (x y : A) → ◌≡◌ {A = Result A K} (Ok x) (Ok y) → x ≡ y
-same_ok x y is = cc
-
-passed_ok : {A K : Type 0} (test : Bool) (x y : A) (kind : K) → cond test (Ok x) (Err kind) ≡ Ok y → (test ≡ true) × (x ≡ y)
-passed_ok true x y kind is = (refl, same_ok x y is)
-passed_ok false x y kind is = absurd cc
-
-pub states_in-lawful : (rules : StateRules) (d : Data) (states : List AbsState) → states_in rules d ≡ Ok states → AreLawful rules states
-states_in-lawful rules d states is =
-    let members = or_kind_ok states_kinds.Shape (state_list d) (λ ds. or_kind states_kinds.State (states_of rules ds) Ok) states is in
-    let read = or_kind_ok states_kinds.State (states_of rules members.0) Ok states members.2 in
-    subst (AreLawful rules) (same_ok read.0 states read.2) (states_of-lawful rules members.0 read.0 read.1)
-
 abbrev InRange : CertNumbers → Type 0
 InRange numbers = (numbers.bound < 2 ^ 120) × ((0 < numbers.denominator) × (numbers.denominator < 2 ^ 80)) × AllByRecursion (λ m. m < 2 ^ 80) numbers.multipliers
 
-cert_numbers-range : (parts : CertParts) (numbers : CertNumbers) → cert_numbers parts ≡ Some numbers → InRange numbers
+cert_numbers-range : (parts : CertParts) → IfOk (cert_numbers parts) InRange
 unfolding cert_numbers
-cert_numbers-range parts numbers is =
-    let bound = bind_some (digits_below (2 ^ 120) parts.bound) (λ bound. digits_below (2 ^ 80) parts.denominator >>= λ denominator. all_of (digits_in (2 ^ 80)) parts.multipliers >>= λ multipliers. cond (eqb denominator 0) None (Some (record { bound = bound; denominator = denominator; multipliers = multipliers }))) numbers is in
-    let denominator = bind_some (digits_below (2 ^ 80) parts.denominator) (λ denominator. all_of (digits_in (2 ^ 80)) parts.multipliers >>= λ multipliers. cond (eqb denominator 0) None (Some (record { bound = bound.0; denominator = denominator; multipliers = multipliers }))) numbers bound.2 in
-    let multipliers = bind_some (all_of (digits_in (2 ^ 80)) parts.multipliers) (λ multipliers. cond (eqb denominator.0 0) None (Some (record { bound = bound.0; denominator = denominator.0; multipliers = multipliers }))) numbers denominator.2 in
-    let found : CertNumbers = record { bound = bound.0; denominator = denominator.0; multipliers = multipliers.0 } in
-    let test = not_refused (eqb denominator.0 0) (Some found) numbers multipliers.2 in
-    subst InRange (same_some found numbers test.1)
-    (digits_below-lt (2 ^ 120) parts.bound bound.0 bound.1, (positive denominator.0 test.0, digits_below-lt (2 ^ 80) parts.denominator denominator.0 denominator.1), all_of-all (digits_in (2 ^ 80)) (λ m. m < 2 ^ 80) (digits_in-lt (2 ^ 80)) parts.multipliers multipliers.0 multipliers.1)
+cert_numbers-range parts =
+    IfOk-step (λ bound. bound < 2 ^ 120) InRange (ok_or (digits_below (2 ^ 120) parts.bound) cert_kinds.Range) _ (IfOk-ok_or _ _ _ (digits_below-lt (2 ^ 120) parts.bound)) (λ bound low.
+    IfOk-step (λ denominator. denominator < 2 ^ 80) InRange (ok_or (digits_below (2 ^ 80) parts.denominator) cert_kinds.Range) _ (IfOk-ok_or _ _ _ (digits_below-lt (2 ^ 80) parts.denominator)) (λ denominator small.
+    IfOk-step (AllByRecursion (λ m. m < 2 ^ 80)) InRange (all_of multiplier_in parts.multipliers) _ (IfOk-all_of multiplier_in (λ m. m < 2 ^ 80) (λ d. IfOk-ok_or _ _ _ (digits_in-lt (2 ^ 80) d)) 0 parts.multipliers) (λ multipliers each.
+    at (eqb denominator 0) (record { bound = bound; denominator = denominator; multipliers = multipliers }) (λ not_zero. (low, (positive denominator not_zero, small), each)))))
+  where
+    at : (test : Bool) (numbers : CertNumbers) → (test ≡ false → InRange numbers) → IfOk (cond test (Err cert_kinds.Range) (Ok numbers)) InRange
+    at true numbers in_range = tt
+    at false numbers in_range = in_range refl
 
-pub cert_in-lawful : (rules : StateRules) (task : ℕ) (name : List ℕ) (d : Data) (cert : Cert) → cert_in rules task name d ≡ Ok cert → IsLawful rules task cert
-cert_in-lawful rules task name d cert is =
-    let parts = or_kind_ok cert_kinds.Shape (cert_parts d) (λ parts. or_kind cert_kinds.Range (cert_numbers parts) (λ numbers. or_kind cert_kinds.State (states_of rules parts.states) (λ states. cond (bytes_eq parts.task name) (Ok (record { task = task; bound = numbers.bound; denominator = numbers.denominator; states = states; multipliers = numbers.multipliers })) (Err cert_kinds.Task)))) cert is in
-    let numbers = or_kind_ok cert_kinds.Range (cert_numbers parts.0) (λ numbers. or_kind cert_kinds.State (states_of rules parts.0.states) (λ states. cond (bytes_eq parts.0.task name) (Ok (record { task = task; bound = numbers.bound; denominator = numbers.denominator; states = states; multipliers = numbers.multipliers })) (Err cert_kinds.Task))) cert parts.2 in
-    let states = or_kind_ok cert_kinds.State (states_of rules parts.0.states) (λ states. cond (bytes_eq parts.0.task name) (Ok (record { task = task; bound = numbers.0.bound; denominator = numbers.0.denominator; states = states; multipliers = numbers.0.multipliers })) (Err cert_kinds.Task)) cert numbers.2 in
-    let found : Cert = record { task = task; bound = numbers.0.bound; denominator = numbers.0.denominator; states = states.0; multipliers = numbers.0.multipliers } in
-    let test = passed_ok (bytes_eq parts.0.task name) found cert cert_kinds.Task states.2 in
-    let range = cert_numbers-range parts.0 numbers.0 numbers.1 in
-    subst (IsLawful rules task) test.1 (record {
+told_as_ok : {A K L : Type 0} (P : A → Type 0) (kind : L) (r : Result A K) → IfOk r P → IfOk (told_as kind r) P
+told_as_ok P kind (Ok x) holds = holds
+told_as_ok P kind (Err other) holds = tt
+
+pub cert_in-lawful : (rules : StateRules) (task : ℕ) (name : List ℕ) (d : Data) → IfOk (cert_in rules task name d) (IsLawful rules task)
+cert_in-lawful rules task name d =
+    IfOk-step (λ _. Unit {0}) _ (ok_or (cert_parts d) cert_kinds.Shape) _ (IfOk-ok_or _ _ _ (λ _ _. tt)) (λ parts _.
+    IfOk-step InRange _ (cert_numbers parts) _ (cert_numbers-range parts) (λ numbers range.
+    IfOk-step (AreLawful rules) _ (told_as cert_kinds.State (states_of rules parts.states)) _ (told_as_ok _ _ (states_of rules parts.states) (states_of-lawful rules parts.states)) (λ states lawful.
+    IfOk-test (IsLawful rules task) (bytes_eq parts.task name) _ _ (λ _. record {
       for_task = refl;
       bound = range.0;
       denominator = range.1;
       multipliers = range.2;
-      states = states_of-lawful rules parts.0.states states.0 states.1;
-    })
-
-pub cert_lawful : (rules : StateRules) (task : ℕ) (name : List ℕ) (d : Data) (r : Result Cert CertFault) → GivesCert r (cert_in rules task name d) → IfOk r (IsLawful rules task)
-cert_lawful rules task name d (Ok cert) gives = cert_in-lawful rules task name d cert gives
-cert_lawful rules task name d (Err e) gives = tt
-
-pub states_lawful : (rules : StateRules) (d : Data) (r : Result (List AbsState) StatesFault) → GivesStates r (states_in rules d) → IfOk r (AreLawful rules)
-states_lawful rules d (Ok states) gives = states_in-lawful rules d states gives
-states_lawful rules d (Err e) gives = tt
+      states = lawful;
+    }))))

@@ -1,3 +1,3 @@
 pub mod Forms
-pub mod Parts
 pub mod Laws
+pub mod Parts

@@ -8,9 +8,8 @@ use Rattle.serde_json.specs.View.{view}
 use Rattle.serde_json.specs.declared.value.Value.{Value}
 use Rattle.json_fields.specs.Lists.{list_in}
 use Rattle.json_fields.specs.Objects.{has_exactly}
-use Rattle.certificate.specs.States.{is_state}
 use Rattle.json_fields.specs.Forms.{is_text}
-use Rattle.certificate.specs.Certificate.{state_list, keys, text_at, list_at, cert_parts}
+use Rattle.certificate.specs.Form.{is_state, state_list, keys, text_at, list_at, cert_parts}
 
 pub state_list-view : (d : Data) (vs : List Value) (formed : Bool) → Some (map view vs) ≡ list_in d
     → formed ≡ list_all (λ v. is_state (view v)) vs

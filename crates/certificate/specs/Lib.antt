@@ -1,5 +1,5 @@
-pub mod Faults
+pub mod Form
+pub mod Parts
 pub mod States
 pub mod Certificate
-pub mod Answers
-pub mod Fits
+pub mod Lawful

@@ -1,6 +1,6 @@
 //! Certificates.
 
-use crate::states::States;
+use abstract_sched::States;
 use listed::ListedNumbers;
 
 /// Multipliers of rows.

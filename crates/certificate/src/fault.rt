@@ -1,63 +1,44 @@
 //! Why a certificate or a list of states could not be read.
 
-use json_fields::Refusal;
+use listed::Fault;
 use thiserror::Error;
 
 /// What is wrong with a certificate's bytes: the first of these that holds.
-#[derive(Clone, Copy, Debug, PartialEq, Eq)]
+#[derive(Clone, Copy, Debug, PartialEq, Eq, Error)]
 pub enum CertKind {
     /// The bytes are no JSON value.
+    #[error("Json")]
     Json,
     /// Another JSON type, another set of keys or a list of another length than the format has.
+    #[error("Shape")]
     Shape,
     /// A text that isn't a number, or one past its limit, or a denominator of 0.
+    #[error("Range")]
     Range,
     /// A state that the system can't have, or one that is listed twice.
+    #[error("State")]
     State,
     /// The certificate is for another task.
+    #[error("Task")]
     Task,
 }
 
 /// Why no certificate was read.
-#[derive(Debug, Drop, Error)]
-pub enum CertFault {
-    #[error("the certificate has a fault: {0:?}")]
-    Kind(CertKind),
-    #[error("out of memory")]
-    Memory,
-}
-
-impl CertFault {
-    ghost use Rattle.std.specs.Prelude.{◌≡◌};
-    ghost use Rattle.certificate.specs.Faults as words;
-
-    /// The fault that a refusal is, by the kind of the rule.
-    pub(crate) fn of_kind(refusal: Refusal, kind: CertKind) -> CertFault
-        ensures { result ≡ words.of_kind refusal kind }
-    {
-        match refusal {
-            Refusal::Refused => CertFault::Kind(kind),
-            Refusal::Memory => CertFault::Memory,
-        }
-    }
-}
+pub type CertFault = Fault<CertKind>;
 
 /// What is wrong with the bytes of a list of states: the first of these that holds.
-#[derive(Clone, Copy, Debug, PartialEq, Eq)]
+#[derive(Clone, Copy, Debug, PartialEq, Eq, Error)]
 pub enum StatesKind {
     /// The bytes are no JSON value.
+    #[error("Json")]
     Json,
     /// Another JSON type or a list of another length than the format has.
+    #[error("Shape")]
     Shape,
     /// A state that the system can't have, or one that is listed twice.
+    #[error("State")]
     State,
 }
 
 /// Why no list of states was read.
-#[derive(Debug, Drop, Error)]
-pub enum StatesFault {
-    #[error("the list of states has a fault: {0:?}")]
-    Kind(StatesKind),
-    #[error("out of memory")]
-    Memory,
-}
+pub type StatesFault = Fault<StatesKind>;

@@ -4,7 +4,7 @@ ghost use Rattle.std.specs.Prelude.{◌≡◌, map, option_map};
 ghost use Rattle.std.specs.List.{list_all};
 ghost use Rattle.serde_json.specs.View.{view};
 ghost use Rattle.json_fields.specs.Forms.{is_number};
-ghost use Rattle.certificate.specs.States as words;
+ghost use Rattle.certificate.specs.Form as words;
 
 use json_fields::list_in;
 use serde_json::Value;

@@ -1,4 +1,7 @@
-//! Certificates and lists of scheduler states: the records, and their readers from JSON.
+//! Certificates and lists of scheduler states: their readers from JSON, and verdicts.
+//!
+//! `read_states(alloc, &rules, bytes)?` gives the states that a file lists, each of them once, and
+//! `read_cert(alloc, &rules, task, name, bytes)?` the certificate for a task.
 #![tactic(auto)]
 
 mod cert;
@@ -6,17 +9,17 @@ mod fault;
 mod form;
 mod read;
 mod reading;
-mod rules;
-mod same;
-mod states;
+mod verdict;
 
+pub use abstract_sched::{
+    AbsState, Contexts, Flags, IsrAt, StateRules, States, TaskAt, TaskStates, is_listed,
+};
 pub use cert::{Cert, Numbers};
 pub use fault::{CertFault, CertKind, StatesFault, StatesKind};
 pub use listed::Memory;
+pub use osek_kernel::Context;
 pub use read::{read_cert, read_states};
-pub use rules::{Context, Contexts, Flags, StateRules};
-pub use same::is_listed;
-pub use states::{AbsState, Ids, IsrAt, States, TaskAt, TaskStates};
+pub use verdict::{Verdict, Why};
 
 #[cfg(test)]
 mod tests;

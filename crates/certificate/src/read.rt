@@ -1,31 +1,54 @@
 //! From a file's bytes to a certificate or a list of states.
 
-ghost use Rattle.std.specs.Prelude.{◌≡◌, ◌^◌, ◌&&◌, map, option_map, IfOk};
+ghost use Rattle.std.specs.Prelude.{◌≡◌, ◌&&◌, map, option_map, IfOk};
 ghost use Rattle.std.specs.List.{list_all};
+ghost use Rattle.listed.specs.Faults.{Gives};
+ghost use Rattle.json_fields.specs.Files.{Answers};
 ghost use Rattle.json_fields.specs.Forms.{is_text};
-ghost use Rattle.json_fields.specs.Lists.{all_of};
-ghost use Rattle.json_fields.specs.Numbers.{digits_in};
 ghost use Rattle.serde_json.specs.View.{view};
-ghost use Rattle.certificate.specs.Answers.{AnswersCert, AnswersStates, GivesCert, GivesStates};
+ghost use Rattle.abstract_sched.specs.Fits.{AreLawful};
 ghost use Rattle.certificate.specs.Certificate as words;
-ghost use Rattle.certificate.specs.Fits.{AreLawful, IsLawful};
-ghost use Rattle.json_fields.specs.Refusals.{Gives};
-ghost use Rattle.certificate.specs.States.{is_state};
+ghost use Rattle.certificate.specs.Form as form;
+ghost use Rattle.certificate.specs.Form.{is_state};
+ghost use Rattle.certificate.specs.Lawful.{IsLawful};
+ghost use Rattle.certificate.specs.States.{states_in};
 
 use crate::cert::{Cert, Numbers};
 use crate::fault::{CertFault, CertKind, StatesFault, StatesKind};
 use crate::form::are_states;
 use crate::reading::states_of;
-use crate::rules::StateRules;
-use crate::states::States;
-use json_fields::{ReadError, Refusal, digits_below, has_exactly, list_in, read_value};
+use abstract_sched::{StateRules, States};
+use json_fields::{Format, digits_below, digits_in, each, has_exactly, list_in, read_file};
+use listed::{Fault, told_as};
 use serde_json::Value;
 use std::alloc::Global;
 
 /// Bounds are below it.
 const BOUND_LIMIT: u128 = 1 << 120;
+
 /// Denominators and multipliers are below it.
 const MULTIPLIER_LIMIT: u128 = 1 << 80;
+
+/// What is no number within its limit.
+const OUT_OF_RANGE: CertFault = Fault::Kind(CertKind::Range);
+
+/// A certificate for the task of this id and name.
+#[derive(Clone, Copy)]
+struct CertFormat<'r> {
+    rules: &'r StateRules,
+    task: usize,
+    name: &'r [u8],
+}
+
+/// A list of scheduler states.
+#[derive(Clone, Copy)]
+struct StatesFormat<'r> {
+    rules: &'r StateRules,
+}
+
+/// A multiplier of a row.
+#[derive(Clone, Copy)]
+struct MultiplierFormat;
 
 /// The members of a value that has the form of a certificate.
 #[derive(Clone, Copy)]
@@ -53,43 +76,76 @@ pub fn read_cert(
     name: &[u8],
     bytes: &[u8],
 ) -> Result<Cert, CertFault>
-    ensures answer { AnswersCert rules.now task name.now bytes.now result }
+    ensures answer { Answers CertKind.Json (words.cert_in rules.now task name.now) bytes.now result }
     ensures lawful { IfOk result (IsLawful rules.now task) }
 {
-    match read_value(alloc, bytes) {
-        Ok(value) => cert_of(alloc, rules, task, name, &value),
-        Err(ReadError::NoValue) => Err(CertFault::Kind(CertKind::Json)),
-        Err(ReadError::Memory) => Err(CertFault::Memory),
-    }
+    read_file(
+        alloc,
+        &CertFormat { rules, task, name },
+        CertKind::Json,
+        bytes,
+    )
 }
 
 /// Reads a list of scheduler states, in the order of the file.
 pub fn read_states(alloc: Global, rules: &StateRules, bytes: &[u8]) -> Result<States, StatesFault>
-    ensures answer { AnswersStates rules.now bytes.now result }
+    ensures answer { Answers StatesKind.Json (states_in rules.now) bytes.now result }
     ensures lawful { IfOk result (AreLawful rules.now) }
 {
-    match read_value(alloc, bytes) {
-        Ok(value) => listed_states(alloc, rules, &value),
-        Err(ReadError::NoValue) => Err(StatesFault::Kind(StatesKind::Json)),
-        Err(ReadError::Memory) => Err(StatesFault::Memory),
+    read_file(alloc, &StatesFormat { rules }, StatesKind::Json, bytes)
+}
+
+impl Format for StatesFormat<'_> {
+    type Item = States;
+
+    type Kind = StatesKind;
+
+    ghost gives = { λ s _ d. states_in s.rules.now d };
+
+    fn read(&self, alloc: Global, _place: usize, value: &Value) -> Result<States, StatesFault> {
+        let values = state_list(value).ok_or(Fault::Kind(StatesKind::Shape))?;
+        states_of(alloc, self.rules, values)
     }
 }
 
-fn listed_states(alloc: Global, rules: &StateRules, value: &Value) -> Result<States, StatesFault>
-    ensures { GivesStates result (words.states_in rules.now (view value.now)) }
-{
-    let Some(values) = state_list(value) else {
-        return Err(StatesFault::Kind(StatesKind::Shape));
-    };
-    match states_of(alloc, rules, values) {
-        Ok(states) => Ok(states),
-        Err(Refusal::Refused) => Err(StatesFault::Kind(StatesKind::State)),
-        Err(Refusal::Memory) => Err(StatesFault::Memory),
+impl Format for CertFormat<'_> {
+    type Item = Cert;
+
+    type Kind = CertKind;
+
+    ghost gives = { λ s _ d. words.cert_in s.rules.now s.task s.name.now d };
+
+    fn read(&self, alloc: Global, _place: usize, value: &Value) -> Result<Cert, CertFault> {
+        let parts = cert_parts(value).ok_or(Fault::Kind(CertKind::Shape))?;
+        let numbers = cert_numbers(alloc, parts)?;
+        let states = told_as(states_of(alloc, self.rules, parts.states), CertKind::State)?;
+        if parts.task.as_bytes() != self.name {
+            return Err(Fault::Kind(CertKind::Task));
+        }
+        Ok(Cert {
+            task: self.task,
+            bound: numbers.bound,
+            denominator: numbers.denominator,
+            states,
+            multipliers: numbers.multipliers,
+        })
+    }
+}
+
+impl Format for MultiplierFormat {
+    type Item = u128;
+
+    type Kind = CertKind;
+
+    ghost gives = { λ _ _ d. words.multiplier_in d };
+
+    fn read(&self, _alloc: Global, _place: usize, value: &Value) -> Result<u128, CertFault> {
+        digits_in(value, MULTIPLIER_LIMIT).ok_or(OUT_OF_RANGE)
     }
 }
 
 fn state_list(value: &Value) -> Option<&[Value]>
-    ensures { option_map (λ vs. map view vs.now) result ≡ words.state_list (view value.now) }
+    ensures { option_map (λ vs. map view vs.now) result ≡ form.state_list (view value.now) }
 {
     let values = list_in(value)?;
     if are_states(values) {
@@ -99,40 +155,8 @@ fn state_list(value: &Value) -> Option<&[Value]>
     }
 }
 
-fn cert_of(
-    alloc: Global,
-    rules: &StateRules,
-    task: usize,
-    name: &[u8],
-    value: &Value,
-) -> Result<Cert, CertFault>
-    ensures { GivesCert result (words.cert_in rules.now task name.now (view value.now)) }
-{
-    let Some(parts) = cert_parts(value) else {
-        return Err(CertFault::Kind(CertKind::Shape));
-    };
-    let numbers = match cert_numbers(alloc, parts) {
-        Ok(numbers) => numbers,
-        Err(refusal) => return Err(CertFault::of_kind(refusal, CertKind::Range)),
-    };
-    let states = match states_of(alloc, rules, parts.states) {
-        Ok(states) => states,
-        Err(refusal) => return Err(CertFault::of_kind(refusal, CertKind::State)),
-    };
-    if parts.task.as_bytes() != name {
-        return Err(CertFault::Kind(CertKind::Task));
-    }
-    Ok(Cert {
-        task,
-        bound: numbers.bound,
-        denominator: numbers.denominator,
-        states,
-        multipliers: numbers.multipliers,
-    })
-}
-
 #[tactic(auto, unfolding(crate::specs::Certificate::cert_numbers))]
-fn cert_numbers(alloc: Global, parts: CertParts<'_>) -> Result<CertNumbers, Refusal>
+fn cert_numbers(alloc: Global, parts: CertParts<'_>) -> Result<CertNumbers, CertFault>
     ensures { Gives result (words.cert_numbers (record {
       bound = parts.entry.bound.now;
       denominator = parts.entry.denominator.now;
@@ -141,33 +165,20 @@ fn cert_numbers(alloc: Global, parts: CertParts<'_>) -> Result<CertNumbers, Refu
       task = parts.entry.task.now;
     })) }
 {
-    let bound = digits_below(parts.bound, BOUND_LIMIT).ok_or(Refusal::Refused)?;
-    let denominator = digits_below(parts.denominator, MULTIPLIER_LIMIT).ok_or(Refusal::Refused)?;
-    let multipliers = each_multiplier(alloc, parts.multipliers)?;
+    let bound = digits_below(parts.bound, BOUND_LIMIT).ok_or(OUT_OF_RANGE)?;
+    let denominator = digits_below(parts.denominator, MULTIPLIER_LIMIT).ok_or(OUT_OF_RANGE)?;
+    let multipliers = each(alloc, &MultiplierFormat, parts.multipliers)?;
     if denominator == 0 {
-        return Err(Refusal::Refused);
+        return Err(OUT_OF_RANGE);
     }
     Ok(CertNumbers {
         bound,
         denominator,
-        multipliers,
+        multipliers: Numbers::from_vec(multipliers.into_vec()),
     })
 }
 
-fn each_multiplier(alloc: Global, values: &[Value]) -> Result<Numbers, Refusal>
-    ensures { Gives result (all_of (digits_in (2 ^ 80)) (map view values.now)) }
-{
-    let mut multipliers = Numbers::new(alloc);
-    for value in values {
-        match json_fields::digits_in(value, MULTIPLIER_LIMIT) {
-            Some(multiplier) => multipliers.push(multiplier)?,
-            None => return Err(Refusal::Refused),
-        }
-    }
-    Ok(multipliers)
-}
-
-#[tactic(auto, unfolding(crate::specs::Certificate::cert_parts))]
+#[tactic(auto, unfolding(crate::specs::Form::cert_parts))]
 fn cert_parts(value: &Value) -> Option<CertParts<'_>>
     ensures { option_map (λ parts. record {
       bound = parts.bound.now;
@@ -176,7 +187,7 @@ fn cert_parts(value: &Value) -> Option<CertParts<'_>>
       states = map view parts.states.now;
       task = parts.task.now;
     }) result
-        ≡ words.cert_parts (view value.now) }
+        ≡ form.cert_parts (view value.now) }
 {
     if !has_exactly(
         value,
@@ -212,7 +223,7 @@ fn are_texts(values: &[Value]) -> bool
 }
 
 fn text_at<'v>(value: &'v Value, key: &str) -> Option<&'v str>
-    ensures { option_map (λ t. t.now) result ≡ words.text_at key.now (view value.now) }
+    ensures { option_map (λ t. t.now) result ≡ form.text_at key.now (view value.now) }
 {
     match value.get(key) {
         Some(member) => member.as_str(),
@@ -221,7 +232,7 @@ fn text_at<'v>(value: &'v Value, key: &str) -> Option<&'v str>
 }
 
 fn list_at<'v>(value: &'v Value, key: &str) -> Option<&'v [Value]>
-    ensures { option_map (λ vs. map view vs.now) result ≡ words.list_at key.now (view value.now) }
+    ensures { option_map (λ vs. map view vs.now) result ≡ form.list_at key.now (view value.now) }
 {
     match value.get(key) {
         Some(member) => list_in(member),

@@ -1,52 +1,100 @@
 //! The scheduler state that a JSON value is.
 
-ghost use Rattle.std.specs.Prelude.{◌≡◌, ◌<◌, length, map};
+ghost use Rattle.std.specs.Prelude.{◌≡◌, map};
+ghost use Rattle.listed.specs.Faults.{Gives};
 ghost use Rattle.serde_json.specs.View.{view};
-ghost use Rattle.json_fields.specs.Lists.{all_of, each_from};
-ghost use Rattle.json_fields.specs.Refusals.{Gives};
+ghost use Rattle.certificate.specs.Parts as parts;
 ghost use Rattle.certificate.specs.States as words;
 
+use crate::fault::{StatesFault, StatesKind};
 use crate::form::{StateParts, state_parts};
-use crate::rules::{Context, StateRules};
-use crate::same::{ids_differ, states_differ};
-use crate::states::{AbsState, Ids, IsrAt, States, TaskAt, TaskStates};
-use json_fields::{Refusal, list_in, whole_in};
+use abstract_sched::{AbsState, IsrAt, StateRules, States, TaskAt, TaskStates, states_differ};
+use json_fields::{Format, each, list_in, whole_in};
+use listed::{Fault, all_differ};
+use oil_model::Ids;
+use osek_kernel::Context;
 use serde_json::Value;
 use std::alloc::Global;
 
+/// What is no state that the system can have.
+const NO_STATE: StatesFault = Fault::Kind(StatesKind::State);
+
+/// A state that the system can have.
+#[derive(Clone, Copy)]
+struct StateFormat<'r> {
+    rules: &'r StateRules,
+}
+
+/// A task of a state, at the place that is its id.
+#[derive(Clone, Copy)]
+struct TaskFormat<'r> {
+    rules: &'r StateRules,
+}
+
+/// The id of a resource that a task holds.
+#[derive(Clone, Copy)]
+struct HeldFormat<'r> {
+    rules: &'r StateRules,
+}
+
+impl Format for StateFormat<'_> {
+    type Item = AbsState;
+
+    type Kind = StatesKind;
+
+    ghost use Rattle.certificate.specs.States.{state_of};
+
+    ghost gives = { λ s _ d. state_of s.rules.now d };
+
+    fn read(&self, alloc: Global, _place: usize, value: &Value) -> Result<AbsState, StatesFault> {
+        let parts = state_parts(value).ok_or(NO_STATE)?;
+        state_of_parts(alloc, self.rules, parts)
+    }
+}
+
+impl Format for TaskFormat<'_> {
+    type Item = TaskAt;
+
+    type Kind = StatesKind;
+
+    ghost use Rattle.certificate.specs.States.{task_of};
+
+    ghost gives = { λ s task d. task_of s.rules.now task d };
+
+    fn read(&self, alloc: Global, task: usize, value: &Value) -> Result<TaskAt, StatesFault> {
+        let has_inner = *self.rules.inner.as_slice().get(task).ok_or(NO_STATE)?;
+        let members = list_in(value).ok_or(NO_STATE)?;
+        task_at(alloc, self.rules, task, has_inner, members)
+    }
+}
+
+impl Format for HeldFormat<'_> {
+    type Item = usize;
+
+    type Kind = StatesKind;
+
+    ghost use Rattle.certificate.specs.States.{held_id};
+
+    ghost gives = { λ s _ d. held_id s.rules.now d };
+
+    fn read(&self, _alloc: Global, _place: usize, value: &Value) -> Result<usize, StatesFault> {
+        id_below(value, self.rules.resources).ok_or(NO_STATE)
+    }
+}
+
 /// The states that the values are, each of them once.
-#[tactic(auto, unfolding(crate::specs::States::states_of))]
 pub(crate) fn states_of(
     alloc: Global,
     rules: &StateRules,
     values: &[Value],
-) -> Result<States, Refusal>
+) -> Result<States, StatesFault>
     ensures { Gives result (words.states_of rules.now (map view values.now)) }
 {
-    let states = each_state(alloc, rules, values)?;
-    if states_differ(states.as_slice()) {
+    let states = each(alloc, &StateFormat { rules }, values)?;
+    if states_differ(alloc, states.as_slice())? {
         Ok(states)
     } else {
-        Err(Refusal::Refused)
-    }
-}
-
-fn each_state(alloc: Global, rules: &StateRules, values: &[Value]) -> Result<States, Refusal>
-    ensures { Gives result (all_of (words.state_of rules.now) (map view values.now)) }
-{
-    let mut states = States::new(alloc);
-    for value in values {
-        states.push(state_of(alloc, rules, value)?)?;
-    }
-    Ok(states)
-}
-
-fn state_of(alloc: Global, rules: &StateRules, value: &Value) -> Result<AbsState, Refusal>
-    ensures { Gives result (words.state_of rules.now (view value.now)) }
-{
-    match state_parts(value) {
-        Some(parts) => state_of_parts(alloc, rules, parts),
-        None => Err(Refusal::Refused),
+        Err(NO_STATE)
     }
 }
 
@@ -55,7 +103,7 @@ fn state_of_parts(
     alloc: Global,
     rules: &StateRules,
     parts: StateParts<'_>,
-) -> Result<AbsState, Refusal>
+) -> Result<AbsState, StatesFault>
     ensures { Gives result (words.state_of_parts rules.now (record {
       mode = view parts.entry.mode.now;
       tasks = view parts.entry.tasks.now;
@@ -64,13 +112,13 @@ fn state_of_parts(
       suspend = view parts.entry.suspend.now;
     })) }
 {
-    let mode = id_below(parts.mode, rules.modes).ok_or(Refusal::Refused)?;
-    let tasks = list_in(parts.tasks).ok_or(Refusal::Refused)?;
+    let mode = id_below(parts.mode, rules.modes).ok_or(NO_STATE)?;
+    let tasks = list_in(parts.tasks).ok_or(NO_STATE)?;
     let tasks = tasks_of(alloc, rules, tasks)?;
-    let isr = list_in(parts.isr).ok_or(Refusal::Refused)?;
-    let isr = isr_at(rules, isr).ok_or(Refusal::Refused)?;
-    let disabled = flag_in(parts.disable).ok_or(Refusal::Refused)?;
-    let suspended = depth_in(parts.suspend).ok_or(Refusal::Refused)?;
+    let isr = list_in(parts.isr).ok_or(NO_STATE)?;
+    let isr = isr_at(rules, isr).ok_or(NO_STATE)?;
+    let disabled = flag_in(parts.disable).ok_or(NO_STATE)?;
+    let suspended = depth_in(parts.suspend).ok_or(NO_STATE)?;
     Ok(AbsState {
         mode,
         tasks,
@@ -80,35 +128,13 @@ fn state_of_parts(
     })
 }
 
-fn tasks_of(alloc: Global, rules: &StateRules, values: &[Value]) -> Result<TaskStates, Refusal>
+fn tasks_of(alloc: Global, rules: &StateRules, values: &[Value]) -> Result<TaskStates, StatesFault>
     ensures { Gives result (words.tasks_of rules.now (map view values.now)) }
 {
     if values.len() != rules.inner.len() {
-        return Err(Refusal::Refused);
+        return Err(NO_STATE);
     }
-    each_task(alloc, rules, values)
-}
-
-fn each_task(alloc: Global, rules: &StateRules, values: &[Value]) -> Result<TaskStates, Refusal>
-    requires { length values.now ≡ length rules.now.inner }
-    ensures { Gives result (each_from (words.task_of rules.now) 0 (map view values.now)) }
-{
-    let mut tasks = TaskStates::new(alloc);
-    for (task, value) in values.iter().enumerate() {
-        tasks.push(task_of(alloc, rules, task, value)?)?;
-    }
-    Ok(tasks)
-}
-
-fn task_of(alloc: Global, rules: &StateRules, task: usize, value: &Value) -> Result<TaskAt, Refusal>
-    requires { task < length rules.now.inner }
-    ensures { Gives result (words.task_of rules.now task (view value.now)) }
-{
-    let has_inner = rules.inner.get(task);
-    match list_in(value) {
-        Some(members) => task_at(alloc, rules, task, has_inner, members),
-        None => Err(Refusal::Refused),
-    }
+    each(alloc, &TaskFormat { rules }, values)
 }
 
 #[tactic(auto, unfolding(crate::specs::States::task_at))]
@@ -118,15 +144,15 @@ fn task_at(
     task: usize,
     has_inner: bool,
     members: &[Value],
-) -> Result<TaskAt, Refusal>
+) -> Result<TaskAt, StatesFault>
     ensures { Gives result (words.task_at rules.now task has_inner (map view members.now)) }
 {
     match members {
         [] => Ok(TaskAt::Suspended),
-        [_] => Err(Refusal::Refused),
+        [_] => Err(NO_STATE),
         [first, second, rest @ ..] => {
-            let block = block_of(rules, Context::Task(task), first).ok_or(Refusal::Refused)?;
-            let inner = inner_of(has_inner, second).ok_or(Refusal::Refused)?;
+            let block = block_of(rules, Context::Task(task), first).ok_or(NO_STATE)?;
+            let inner = inner_of(has_inner, second).ok_or(NO_STATE)?;
             let held = held_of(alloc, rules, rest)?;
             Ok(TaskAt::At { block, inner, held })
         }
@@ -134,33 +160,20 @@ fn task_at(
 }
 
 #[tactic(auto, unfolding(crate::specs::States::held_of))]
-fn held_of(alloc: Global, rules: &StateRules, values: &[Value]) -> Result<Ids, Refusal>
+fn held_of(alloc: Global, rules: &StateRules, values: &[Value]) -> Result<Ids, StatesFault>
     ensures { Gives result (words.held_of rules.now (map view values.now)) }
 {
-    let held = each_id(alloc, rules.resources, values)?;
-    if ids_differ(held.as_slice()) {
-        Ok(held)
+    let held = each(alloc, &HeldFormat { rules }, values)?;
+    if all_differ(alloc, held.as_slice())? {
+        Ok(Ids::from_vec(held.into_vec()))
     } else {
-        Err(Refusal::Refused)
+        Err(NO_STATE)
     }
 }
 
-fn each_id(alloc: Global, count: usize, values: &[Value]) -> Result<Ids, Refusal>
-    ensures { Gives result (all_of (words.id_below count) (map view values.now)) }
-{
-    let mut ids = Ids::new(alloc);
-    for value in values {
-        match id_below(value, count) {
-            Some(id) => ids.push(id)?,
-            None => return Err(Refusal::Refused),
-        }
-    }
-    Ok(ids)
-}
-
-#[tactic(auto, unfolding(crate::specs::States::isr_at))]
+#[tactic(auto, unfolding(crate::specs::Parts::isr_at))]
 fn isr_at(rules: &StateRules, members: &[Value]) -> Option<Option<IsrAt>>
-    ensures { result ≡ words.isr_at rules.now (map view members.now) }
+    ensures { result ≡ parts.isr_at rules.now (map view members.now) }
 {
     match members {
         [] => Some(None),
@@ -173,9 +186,9 @@ fn isr_at(rules: &StateRules, members: &[Value]) -> Option<Option<IsrAt>>
     }
 }
 
-#[tactic(auto, unfolding(crate::specs::States::inner_of))]
+#[tactic(auto, unfolding(crate::specs::Parts::inner_of))]
 fn inner_of(has_inner: bool, value: &Value) -> Option<bool>
-    ensures { result ≡ words.inner_of has_inner (view value.now) }
+    ensures { result ≡ parts.inner_of has_inner (view value.now) }
 {
     let inner = flag_in(value)?;
     if inner && !has_inner {
@@ -185,9 +198,9 @@ fn inner_of(has_inner: bool, value: &Value) -> Option<bool>
     }
 }
 
-#[tactic(auto, unfolding(crate::specs::States::block_of))]
+#[tactic(auto, unfolding(crate::specs::Parts::block_of))]
 fn block_of(rules: &StateRules, context: Context, value: &Value) -> Option<usize>
-    ensures { result ≡ words.block_of rules.now context (view value.now) }
+    ensures { result ≡ parts.block_of rules.now context (view value.now) }
 {
     let block = number_in(value)?;
     if block < rules.owners.len() && same_context(rules.owners.get(block), context) {
@@ -198,7 +211,7 @@ fn block_of(rules: &StateRules, context: Context, value: &Value) -> Option<usize
 }
 
 fn same_context(left: Context, right: Context) -> bool
-    ensures { result ≡ words.same_context left right }
+    ensures { result ≡ parts.same_context left right }
 {
     match (left, right) {
         (Context::Task(left), Context::Task(right)) => left == right,
@@ -208,28 +221,28 @@ fn same_context(left: Context, right: Context) -> bool
 }
 
 fn id_below(value: &Value, count: usize) -> Option<usize>
-    ensures { result ≡ words.id_below count (view value.now) }
+    ensures { result ≡ parts.id_below count (view value.now) }
 {
     let id = number_in(value)?;
     if id < count { Some(id) } else { None }
 }
 
 fn number_in(value: &Value) -> Option<usize>
-    ensures { result ≡ words.number_in (view value.now) }
+    ensures { result ≡ parts.number_in (view value.now) }
 {
     let number = whole_in(value, 0, u32::MAX as u64)?;
     Some(number as usize)
 }
 
 fn flag_in(value: &Value) -> Option<bool>
-    ensures { result ≡ words.flag_in (view value.now) }
+    ensures { result ≡ parts.flag_in (view value.now) }
 {
     let number = whole_in(value, 0, 1)?;
     Some(number == 1)
 }
 
 fn depth_in(value: &Value) -> Option<u8>
-    ensures { result ≡ words.depth_in (view value.now) }
+    ensures { result ≡ parts.depth_in (view value.now) }
 {
     let number = whole_in(value, 0, 7)?;
     Some(number as u8)

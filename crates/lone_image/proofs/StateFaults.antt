@@ -1,6 +1,6 @@
 -- The faults of a list of states, one after another.
 use Rattle.std.proofs.Common.{◌≡◌, ℕ, suc, ◌+◌, ◌<◌, List, ◌∷◌, length, get_or, drop, drop-cons, ap, sym, ◌∙◌, arith}
-use Rattle.certificate.specs.declared.states.AbsState.{AbsState}
+use Rattle.abstract_sched.specs.declared.states.AbsState.{AbsState}
 use Rattle.lone_image.specs.LoneStates.{state_fault, or_else, first_fault}
 
 -- the fault of the state at a place, or else the first one after it

@@ -1,6 +1,6 @@
 -- A worked case: an image of four words, `addi t0, zero, 7` and the service TerminateTask, is a forward
 -- image; and a run over it that keeps the costs lasts 13 cycles, so that no bound below 13 holds.
-use Rattle.std.proofs.Common.{◌≡◌, ℕ, zero, suc, ◌*◌, ◌<◌, ◌≤◌, List, [], ◌∷◌, get_or, replicate, pos, refl, arith}
+use Rattle.std.proofs.Common.{◌≡◌, ℕ, zero, suc, ◌*◌, ◌<◌, ◌≤◌, List, [], ◌∷◌, pos, refl, arith}
 use Rattle.std.specs.Prelude.{slice_set}
 use Rattle.std.proofs.lemmas.Int.{ints}
 use Rattle.elf_image.specs.Image.{ImageData, initial_byte}
@@ -8,7 +8,8 @@ use Rattle.elf_image.specs.Flat.{flat_image}
 use Rattle.rv32_decode.specs.declared.instruction.Insn.TheVariants.{Imm}
 use Rattle.rv32_decode.specs.declared.instruction.ImmOp.TheVariants.{Addi}
 use Rattle.rv32_decode.specs.Instructions.{IsWordOf}
-use Rattle.rv32_machine.specs.Registers.{AreRegisters, zeros}
+use Rattle.rv32_machine.specs.Registers.{zeros}
+use Rattle.rv32_machine.proofs.ExecutionLaws.{zeros_are_registers}
 use Rattle.lone_image.specs.Forward.{IsForward, IsPlainAt}
 use Rattle.lone_image.specs.LoneMachine.{Running, Ended, LoneState, Event, Instruction, End, IsLoneRun, KeepsCosts, LastsAtMost}
 use Rattle.lone_image.proofs.Simulation.{argument_decoded, number_decoded, ecall_decoded}
@@ -41,14 +42,6 @@ after_three = slice_set after_two 17 2
 
 abbrev at : ℕ → List ℕ → ℕ → LoneState
 at moment registers place = record { moment = moment; task = Running registers place; memory = initial_byte image.memory }
-
-all_zero : (n number : ℕ) → get_or {A = ℕ} (replicate n 0) number 0 ≡ 0
-all_zero zero number = refl
-all_zero (suc n) zero = refl
-all_zero (suc n) (suc number) = all_zero n number
-
-zeros_are_registers : AreRegisters zeros
-zeros_are_registers = record { count = refl; zero_first = refl; words = λ number. (let none = all_zero 32 number in omega arith) }
 
 start : IsLoneRun image [] (at 0 zeros 0)
 start = record { registers = zeros; are_registers = zeros_are_registers; moment = refl; task = refl; memory = refl }

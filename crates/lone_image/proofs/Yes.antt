@@ -6,9 +6,9 @@ use Rattle.whole_rows.specs.declared.DualVerdict.TheVariants as dual
 use Rattle.whole_rows.specs.Duals.{first_failing_of}
 use Rattle.whole_rows.proofs.Verdicts.{good_from_yes}
 use Rattle.certificate.specs.declared.cert.Cert.{Cert}
-use Rattle.lone_image.specs.declared.verdict.Why.{Why}
-use Rattle.lone_image.specs.declared.verdict.Verdict.{Verdict}
-use Rattle.lone_image.specs.declared.verdict.Verdict.TheVariants.{Yes}
+use Rattle.certificate.specs.declared.verdict.Why.{Why}
+use Rattle.certificate.specs.declared.verdict.Verdict.{Verdict}
+use Rattle.certificate.specs.declared.verdict.Verdict.TheVariants.{Yes}
 use Rattle.lone_image.specs.Forward.{IsForward}
 use Rattle.lone_image.specs.LoneStates.{first_open}
 use Rattle.lone_image.specs.LoneRows.{lone_rows}

@@ -1,13 +1,13 @@
 -- The lone machine: one task on a processor that it shares with nobody. It is activated at moment 0, at
 -- address 0 and with any registers, executes the code words of an image, and ends by TerminateTask.
-use Rattle.std.specs.Prelude.{◌≡◌, ℕ, ◌+◌, ◌≤◌, ◌==◌, List, [], ◌∷◌, ℤ, pos, Option, Some, if◌then◌else◌}
-use Rattle.std.specs.Option.{option_map}
+use Rattle.std.specs.Prelude.{◌≡◌, ℕ, ◌+◌, ◌≤◌, List, [], ◌∷◌, ℤ, pos, Option, Some}
 use Rattle.elf_image.specs.Image.{ImageData, word_at, initial_byte}
 use Rattle.rv32_decode.specs.declared.instruction.Insn.{Insn}
 use Rattle.rv32_decode.specs.declared.instruction.Insn.TheVariants.{Ecall}
 use Rattle.rv32_decode.specs.Instructions.{IsWordOf}
 use Rattle.rv32_machine.specs.Registers.{AreRegisters, value_of}
 use Rattle.rv32_machine.specs.Execution.{Effect, executed}
+use Rattle.rv32_machine.specs.Memory.{after_stores}
 
 -- ---- States
 
@@ -38,12 +38,6 @@ pub data Event : Type 0 where
   Instruction : ℕ → ℕ → Event
   End : ℕ → Event
   Idle : ℕ → Event
-
--- memory after bytes were stored, each at its address; where nothing is loaded a store changes nothing
-abbrev pub after_stores : (ℕ → Option ℕ) → List (ℕ × ℕ) → ℕ → Option ℕ
-after_stores memory [] = memory
-after_stores memory (stored ∷ others) =
-    after_stores (λ address. if address == stored.0 then option_map (λ _. stored.1) (memory address) else memory address) others
 
 -- The task executes the instruction at its address.
 pub record IsInstruction (image : ImageData) (device cycles : ℕ) (before after : LoneState) : Type 0 where

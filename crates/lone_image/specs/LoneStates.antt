@@ -2,14 +2,14 @@
 -- the resource RES_SCHEDULER, and no interrupts or alarms.
 use Rattle.std.specs.Prelude.{◌≡◌, ℕ, ◌+◌, Bool, true, false, ◌||◌, nat_lt, List, [], ◌∷◌, Option, Some, None, if◌then◌else◌, refl}
 use Rattle.std.specs.List.{list_any}
-use Rattle.certificate.specs.declared.rules.StateRules.{StateRules}
-use Rattle.certificate.specs.declared.rules.Context.TheVariants as context
-use Rattle.certificate.specs.declared.states.AbsState.{AbsState}
-use Rattle.certificate.specs.declared.states.TaskAt.{TaskAt}
-use Rattle.certificate.specs.declared.states.TaskAt.TheVariants.{Suspended, At}
-use Rattle.certificate.specs.States.{same_state}
-use Rattle.lone_image.specs.declared.verdict.Why.{Why}
-use Rattle.lone_image.specs.declared.verdict.Why.TheVariants.{MissingInitial, Missing, Misuse}
+use Rattle.abstract_sched.specs.declared.rules.StateRules.{StateRules}
+use Rattle.osek_kernel.specs.declared.context.Context.TheVariants as context
+use Rattle.abstract_sched.specs.declared.states.AbsState.{AbsState}
+use Rattle.abstract_sched.specs.declared.states.TaskAt.{TaskAt}
+use Rattle.abstract_sched.specs.declared.states.TaskAt.TheVariants.{Suspended, At}
+use Rattle.abstract_sched.specs.States.{same_state}
+use Rattle.certificate.specs.declared.verdict.Why.{Why}
+use Rattle.certificate.specs.declared.verdict.Why.TheVariants.{MissingInitial, Missing, Misuse}
 
 -- what scheduler states of the lone system are judged by
 abbrev pub lone_rules : StateRules

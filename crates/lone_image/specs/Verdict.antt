@@ -4,10 +4,10 @@ use Rattle.whole_rows.specs.declared.DualVerdict.{DualVerdict}
 use Rattle.whole_rows.specs.declared.DualVerdict.TheVariants as dual
 use Rattle.whole_rows.specs.Duals.{first_failing_of}
 use Rattle.certificate.specs.declared.cert.Cert.{Cert}
-use Rattle.lone_image.specs.declared.verdict.Why.{Why}
-use Rattle.lone_image.specs.declared.verdict.Why.TheVariants.{Count, Column, Bound}
-use Rattle.lone_image.specs.declared.verdict.Verdict.{Verdict}
-use Rattle.lone_image.specs.declared.verdict.Verdict.TheVariants.{Yes, No}
+use Rattle.certificate.specs.declared.verdict.Why.{Why}
+use Rattle.certificate.specs.declared.verdict.Why.TheVariants.{Count, Column, Bound}
+use Rattle.certificate.specs.declared.verdict.Verdict.{Verdict}
+use Rattle.certificate.specs.declared.verdict.Verdict.TheVariants.{Yes, No}
 use Rattle.lone_image.specs.LoneStates.{first_open}
 use Rattle.lone_image.specs.LoneRows.{lone_rows}
 

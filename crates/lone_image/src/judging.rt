@@ -1,7 +1,7 @@
 //! The verdict on a certificate of a forward image, and what the verdict means.
 ghost use Rattle.std.specs.Prelude.{◌≡◌, ℕ, ℤ, ◌^◌, ◌<◌, IfOk};
 ghost use Rattle.elf_image.specs.Image.{ImageData};
-ghost use Rattle.certificate.specs.Fits.{IsLawful};
+ghost use Rattle.certificate.specs.Lawful.{IsLawful};
 ghost use Rattle.certificate.specs.declared.cert.Cert.{Cert as CertData};
 ghost use Rattle.lone_image.specs.Forward.{IsForward};
 ghost use Rattle.lone_image.specs.LoneStates.{lone_rules};
@@ -12,8 +12,7 @@ ghost use Rattle.lone_image.specs.Verdict.{dual_verdict, verdict_of};
 
 use crate::rows::lone_rows;
 use crate::states::first_open;
-use crate::verdict::{Verdict, Why};
-use certificate::Cert;
+use certificate::{Cert, Verdict, Why};
 use listed::Memory;
 use std::alloc::Global;
 use whole_rows::{DualVerdict, first_failing};

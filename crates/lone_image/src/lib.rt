@@ -7,10 +7,9 @@ mod forward;
 mod judging;
 mod rows;
 mod states;
-mod verdict;
 
+pub use certificate::{Verdict, Why};
 pub use forward::plain_count;
 pub use judging::{good_certificates_bound_runs, greatest_value_bounds_runs, judge};
 pub use rows::lone_rows;
 pub use states::{first_open, lone_rules};
-pub use verdict::{Verdict, Why};

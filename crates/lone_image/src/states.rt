@@ -2,9 +2,8 @@
 ghost use Rattle.std.specs.Prelude.{◌≡◌, None, IfOk};
 ghost use Rattle.lone_image.specs.LoneStates.{lone_rules, lone_initial, after_end, is_locked, end_misuse, end_fault, state_fault, first_fault, first_open};
 
-use crate::verdict::Why;
 use certificate::{
-    AbsState, Context, Contexts, Flags, StateRules, States, TaskAt, TaskStates, is_listed,
+    AbsState, Context, Contexts, Flags, StateRules, States, TaskAt, TaskStates, Why, is_listed,
 };
 use listed::{ListedNumbers, Memory};
 use std::alloc::Global;

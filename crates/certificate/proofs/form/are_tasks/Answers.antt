@@ -1,6 +1,6 @@
 use Rattle.std.proofs.Common.{true}
 use Rattle.serde_json.specs.View.{view}
-use Rattle.certificate.specs.States.{is_task}
+use Rattle.certificate.specs.Form.{is_task}
 use Rattle.certificate.proofs.Forms.{is_list_with-view}
 use Rattle.certificate.proofs.form.are_tasks.Goals as goal
 

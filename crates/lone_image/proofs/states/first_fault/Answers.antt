@@ -1,5 +1,5 @@
 use Rattle.std.proofs.Common.{◌+◌, drop, ap, sym, ◌∙◌, arith, Option}
-use Rattle.lone_image.specs.declared.verdict.Why.{Why}
+use Rattle.certificate.specs.declared.verdict.Why.{Why}
 use Rattle.lone_image.specs.LoneStates.{or_else, first_fault}
 use Rattle.lone_image.proofs.StateFaults.{first_fault-drop}
 use Rattle.lone_image.proofs.states.first_fault.Goals as goal

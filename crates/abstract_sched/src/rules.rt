@@ -1,16 +1,10 @@
 //! What a scheduler state is judged by.
 
 use listed::ListedNumbers;
+use osek_kernel::Context;
 
 /// One flag for each task of the system, by id.
 pub type Flags = ListedNumbers<bool>;
-
-/// A task or an ISR, by its id.
-#[derive(Clone, Copy, Debug)]
-pub enum Context {
-    Task(usize),
-    Isr(usize),
-}
 
 /// One context for each block.
 pub type Contexts = ListedNumbers<Context>;

@@ -1,9 +1,7 @@
 //! Scheduler states: what the kernel holds, with the block in which each active context stands.
 
-use listed::{Listed, ListedNumbers};
-
-/// Numbers of contexts, blocks or resources.
-pub type Ids = ListedNumbers<usize>;
+use listed::Listed;
+use oil_model::Ids;
 
 /// One member for each task of the system, by id.
 pub type TaskStates = Listed<TaskAt>;
@@ -12,7 +10,7 @@ pub type TaskStates = Listed<TaskAt>;
 pub type States = Listed<AbsState>;
 
 /// Where a task stands.
-#[derive(Debug, Drop)]
+#[derive(Debug, Drop, PartialEq, Eq, PartialOrd, Ord)]
 pub enum TaskAt {
     Suspended,
     /// The block that the task began last, whether its inner ceiling (that of an internal resource
@@ -26,7 +24,7 @@ pub enum TaskAt {
 }
 
 /// The active ISR, and the block that it began last.
-#[derive(Clone, Copy, Debug)]
+#[derive(Clone, Copy, Debug, PartialEq, Eq, PartialOrd, Ord)]
 pub struct IsrAt {
     pub isr: usize,
     pub block: usize,
@@ -34,7 +32,7 @@ pub struct IsrAt {
 
 /// A scheduler state: the mode, the tasks, the active ISR if there is one, the flag that
 /// DisableAllInterrupts sets, and how deep SuspendAllInterrupts and SuspendOSInterrupts nest.
-#[derive(Debug, Drop)]
+#[derive(Debug, Drop, PartialEq, Eq, PartialOrd, Ord)]
 pub struct AbsState {
     pub mode: usize,
     pub tasks: TaskStates,
