@@ -1,10 +1,4 @@
-pub mod Pieces
 pub mod Numbers
-pub mod Rays
-pub mod LoneLaws
-pub mod CheckLoneLaws
-pub mod OutcomeLaws
-pub mod BoundLoneLaws
-pub mod ShowOilLaws
-pub mod RunLaws
-pub mod ReadLaws
+pub mod Solved
+pub mod Commands
+pub mod Headline

@@ -1,41 +1,25 @@
--- `bound lone IMAGE STATES`: the answer, by what the two files hold.
-use Rattle.std.specs.Prelude.{◌≡◌, ℕ, pos, List, Option, Some, None, Result, Ok, Err}
-use Rattle.elf_image.specs.Image.{ImageData}
-use Rattle.elf_image.specs.Flat.{flat_of}
-use Rattle.json_fields.specs.Files.{Answers}
-use Rattle.certificate.specs.declared.states.AbsState.{AbsState}
-use Rattle.certificate.specs.declared.fault.StatesKind.{StatesKind}
-use Rattle.certificate.specs.declared.fault.StatesKind.TheVariants.{Json}
-use Rattle.certificate.specs.Certificate.{states_in}
-use Rattle.whole_rows.specs.Greatest.{IsGreatest}
-use Rattle.whole_simplex.specs.Outcome.{outcome_of}
-use Rattle.lone_image.specs.declared.verdict.Why.{Why}
-use Rattle.lone_image.specs.Forward.{IsForward}
+-- `bound lone IMAGE STATES`: first the image is read and judged, then the list of states; where that is closed, the rows are
+-- solved.
+use Rattle.std.specs.Prelude.{◌≡◌, ℕ, List, Option, Some, None, Result, Err}
+use Rattle.certificate.specs.declared.verdict.Why.{Why}
 use Rattle.lone_image.specs.LoneRows.{lone_rows}
-use Rattle.lone_image.specs.LoneStates.{lone_rules, first_open}
-use Rattle.syswcet.specs.Reports.{AnswerData, input_answer, no_answer}
-use Rattle.syswcet.specs.Outcomes.{AnswersOutcome}
-use Rattle.syswcet.specs.LoneFiles.{lone_task, IsLoneAnswer}
+use Rattle.lone_image.specs.LoneStates.{first_open}
+use Rattle.whole_simplex.specs.Outcome.{outcome_of}
+use Rattle.command_steps.specs.declared.halt.Refusal.{Refusal}
+use Rattle.command_steps.specs.Steps.{Calls, Step, Judged, Then}
+use Rattle.reports.specs.Verdicts.{no_refusal}
+use Rattle.syswcet.specs.Inputs.{lone_task, lone_mode, LoneImage, LoneStates}
+use Rattle.syswcet.specs.Solving.{AnswersOutcome}
 
 -- Listed states that aren't closed have a first fault; the rows of others are solved with at most so many pivots.
-abbrev pub AnswersClosure : ℕ → ℕ → Option Why → AnswerData → Type 0
-AnswersClosure pivots count (Some why) made = made ≡ no_answer why
-AnswersClosure pivots count None made = AnswersOutcome lone_task (lone_rows count) pivots (outcome_of (lone_rows count) pivots) made
+abbrev pub AnswersClosed : ℕ → ℕ → Option Why → Result (List ℕ) Refusal → Type 0
+AnswersClosed pivots count (Some why) given = given ≡ Err (no_refusal lone_mode why)
+AnswersClosed pivots count None given = AnswersOutcome lone_task (lone_rows count) pivots (outcome_of (lone_rows count) pivots) given
 
-abbrev pub AnswersListed : ℕ → List ℕ → ℕ → Result (List AbsState) StatesKind → AnswerData → Type 0
-AnswersListed pivots states count (Ok listed) made = AnswersClosure pivots count (first_open listed) made
-AnswersListed pivots states count (Err fault) made = made ≡ input_answer states
+-- for an image with so many plain instructions before the service
+abbrev pub StatesAnswer : {F : Type 0} → Calls F → List ℕ → ℕ → ℕ → Step F (List ℕ)
+StatesAnswer calls states pivots count =
+    Then (LoneStates calls states) (λ listed. Judged (AnswersClosed pivots count (first_open listed)))
 
--- by the bytes of the list of states, for an image with so many plain instructions before the service
-abbrev pub AnswersStates : ℕ → List ℕ → ℕ → List ℕ → AnswerData → Type 0
-AnswersStates pivots states count bytes made =
-    (listed : Result (List AbsState) StatesKind) × Answers Json (states_in lone_rules) bytes listed × AnswersListed pivots states count listed made
-
--- The answer of `bound lone`, with at most so many pivots, over the files that these names tell, where no read fails.
-abbrev pub IsBoundLoneAnswer : ℕ → (List ℕ → Option (List ℕ)) → List ℕ → List ℕ → AnswerData → Type 0
-IsBoundLoneAnswer pivots told image states made = IsLoneAnswer (AnswersStates pivots states) told image states made
-
--- the greatest value, rounded down, of the rows of the image that the bytes are
-abbrev pub IsGreatestOfImage : List ℕ → ℕ → Type 0
-IsGreatestOfImage bytes bound =
-    (flat : ImageData) → flat_of bytes ≡ Ok flat → (count : ℕ) × IsForward flat count × IsGreatest (lone_rows count) (pos bound)
+abbrev pub BoundLone : {F : Type 0} → Calls F → List ℕ → List ℕ → ℕ → Step F (List ℕ)
+BoundLone calls image states pivots = Then (LoneImage calls image) (StatesAnswer calls states pivots)

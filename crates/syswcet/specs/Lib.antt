@@ -1,11 +1,8 @@
-pub mod Status
-pub mod Reports
 pub mod Words
-pub mod Files
-pub mod LoneFiles
+pub mod Inputs
+pub mod Solving
 pub mod CheckLone
-pub mod Outcomes
 pub mod BoundLone
-pub mod Lone
 pub mod ShowOil
-pub mod Run
+pub mod Commands
+pub mod Headline

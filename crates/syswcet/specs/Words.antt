@@ -33,6 +33,16 @@ pivots_of text = option_and_then pivots_within (number_of text)
 abbrev pub usual_pivots : ℕ
 usual_pivots = 100000
 
+-- the commands, with the words that name their files
+abbrev pub check_lone : List (List ℕ) → Command
+check_lone words = CheckLone (word words 2) (word words 3)
+
+abbrev pub bound_lone : List (List ℕ) → ℕ → Command
+bound_lone words pivots = BoundLone (word words 2) (word words 3) pivots
+
+abbrev pub show_oil : List (List ℕ) → Command
+show_oil words = ShowOil (word words 2)
+
 -- What the words ask for:
 --
 --   check lone IMAGE CERT
@@ -40,27 +50,28 @@ usual_pivots = 100000
 --   show oil OIL
 abbrev pub command_of : List (List ℕ) → Option Command
 command_of words =
-    if is_shape words (codes "check") (codes "lone") 4 then Some CheckLone
-    else (if is_shape words (codes "bound") (codes "lone") 4 then Some (BoundLone usual_pivots)
+    if is_shape words (codes "check") (codes "lone") 4 then Some (check_lone words)
+    else (if is_shape words (codes "bound") (codes "lone") 4 then Some (bound_lone words usual_pivots)
     else (if is_shape words (codes "bound") (codes "lone") 6 && bytes_eq (word words 4) (codes "--pivots")
-    then option_map (λ pivots. BoundLone pivots) (pivots_of (word words 5))
-    else (if is_shape words (codes "show") (codes "oil") 3 then Some ShowOil
+    then option_map (bound_lone words) (pivots_of (word words 5))
+    else (if is_shape words (codes "show") (codes "oil") 3 then Some (show_oil words)
     else None)))
 
-check_lone_case : command_of (codes "check" ∷ codes "lone" ∷ codes "a" ∷ codes "c" ∷ []) ≡ Some CheckLone
+check_lone_case : command_of (codes "check" ∷ codes "lone" ∷ codes "a" ∷ codes "c" ∷ []) ≡ Some (CheckLone (codes "a") (codes "c"))
 check_lone_case = refl
 
 no_shape_case : command_of (codes "check" ∷ codes "lone" ∷ codes "a" ∷ []) ≡ None
 no_shape_case = refl
 
-bound_lone_case : command_of (codes "bound" ∷ codes "lone" ∷ codes "a" ∷ codes "k" ∷ []) ≡ Some (BoundLone 100000)
+bound_lone_case : command_of (codes "bound" ∷ codes "lone" ∷ codes "a" ∷ codes "k" ∷ []) ≡ Some (BoundLone (codes "a") (codes "k") 100000)
 bound_lone_case = refl
 
-pivots_case : command_of (codes "bound" ∷ codes "lone" ∷ codes "a" ∷ codes "k" ∷ codes "--pivots" ∷ codes "0012" ∷ []) ≡ Some (BoundLone 12)
+pivots_case : command_of (codes "bound" ∷ codes "lone" ∷ codes "a" ∷ codes "k" ∷ codes "--pivots" ∷ codes "0012" ∷ []) ≡ Some
+    (BoundLone (codes "a") (codes "k") 12)
 pivots_case = refl
 
 no_pivots_case : command_of (codes "bound" ∷ codes "lone" ∷ codes "a" ∷ codes "k" ∷ codes "--pivots" ∷ codes "0" ∷ []) ≡ None
 no_pivots_case = refl
 
-show_oil_case : command_of (codes "show" ∷ codes "oil" ∷ codes "lone" ∷ []) ≡ Some ShowOil
+show_oil_case : command_of (codes "show" ∷ codes "oil" ∷ codes "lone" ∷ []) ≡ Some (ShowOil (codes "lone"))
 show_oil_case = refl

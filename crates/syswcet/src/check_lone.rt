@@ -1,45 +1,57 @@
 //! `check lone IMAGE CERT` judges one certificate of a lone image.
-ghost use Rattle.std.specs.Prelude.{◌^◌, ◌<◌, IfOk};
-ghost use Rattle.certificate.specs.Answers.{AnswersCert};
-ghost use Rattle.certificate.specs.Fits.{IsLawful};
+ghost use Rattle.std.specs.Prelude.{◌≡◌, ◌^◌, ◌<◌};
+ghost use Rattle.certificate.specs.Lawful.{IsLawful};
 ghost use Rattle.lone_image.specs.LoneStates.{lone_rules};
-ghost use Rattle.syswcet.specs.LoneFiles.{lone_task};
-ghost use Rattle.syswcet.specs.CheckLone.{AnswersCertificate};
+ghost use Rattle.lone_image.specs.Verdict.{verdict_of};
+ghost use Rattle.command_steps.specs.Steps.{IsCall, Says};
+ghost use Rattle.syswcet.specs.CheckLone.{CheckLone, CertificateAnswer, verdict_answer};
 
-use crate::answer::Answer;
-use certificate::{Cert, CertFault, read_cert};
-use listed::Memory;
-use lone_image::{judge, lone_rules};
+use crate::certificates::lone_certificate;
+use crate::images::lone_image;
+use certificate::{Cert, Verdict};
+use command_steps::Halt;
+use lone_image::judge;
+use reports::{no_refusal, yes_text};
 use std::alloc::Global;
-use wcet_io::{Bytes, Text};
+use wcet_io::{Bytes, Files, Text};
 
-/// The answer, where the certificate's file has these bytes.
-pub fn judge_certificate(
+/// The answer by the two named files.
+pub fn check_lone<F: Files>(
     alloc: Global,
+    image: &Text,
     certificate: &Text,
-    count: u32,
-    bytes: &Bytes,
-) -> Result<Answer, Memory>
-    requires { count < 2 ^ 20 }
-    ensures { IfOk result (λ made. AnswersCertificate certificate.now count bytes.now made) }
+    files: &mut F,
+) -> Result<Bytes, Halt>
+    ensures { CheckLone (IsCall F.outside F.reads) image.now certificate.now
+        files.old result files.new }
 {
-    match read_certificate(alloc, bytes) {
-        Ok(cert) => {
-            let verdict = judge(alloc, count, &cert)?;
-            Answer::verdict(alloc, cert.bound, verdict)
-        }
-        Err(CertFault::Kind(_)) => Answer::input(alloc, certificate),
-        Err(CertFault::Memory) => Err(Memory),
-    }
+    let count = lone_image(alloc, image, files)?;
+    judge_file(alloc, count, certificate, files)
 }
 
-/// The certificate that the bytes have, for the task of the lone system.
-fn read_certificate(alloc: Global, bytes: &Bytes) -> Result<Cert, CertFault>
-    ensures answer { AnswersCert lone_rules 0 lone_task bytes.now result }
-    ensures lawful { IfOk result (IsLawful lone_rules 0) }
+/// The answer for an image with so many plain instructions before the service.
+fn judge_file<F: Files>(
+    alloc: Global,
+    count: u32,
+    certificate: &Text,
+    files: &mut F,
+) -> Result<Bytes, Halt>
+    requires { count < 2 ^ 20 }
+    ensures { CertificateAnswer (IsCall F.outside F.reads) certificate.now count
+        files.old result files.new }
 {
-    match lone_rules(alloc) {
-        Ok(rules) => read_cert(alloc, &rules, 0, b"T", bytes.as_slice()),
-        Err(Memory) => Err(CertFault::Memory),
+    let cert = lone_certificate(alloc, certificate, files)?;
+    answer(alloc, count, &cert)
+}
+
+fn answer(alloc: Global, count: u32, cert: &Cert) -> Result<Bytes, Halt>
+    requires few { count < 2 ^ 20 }
+    requires lawful { IsLawful lone_rules 0 cert.now }
+    ensures { Says (λ given.
+        given ≡ verdict_answer cert.now.bound (verdict_of count cert.now)) result }
+{
+    match judge(alloc, count, cert)? {
+        Verdict::Yes => Ok(yes_text(alloc, "T", cert.bound)?),
+        Verdict::No(why) => Err(Halt::Refused(no_refusal(alloc, "Main", why)?)),
     }
 }

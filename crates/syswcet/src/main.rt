@@ -1,19 +1,22 @@
-//! The program `syswcet`: response-time bounds of OSEK tasks from their binaries.
+//! The program `syswcet`: response-time bounds of OSEK tasks from their binaries. A command stands
+//! in one file, from its first read to its text; the files that it reads are its inputs, one
+//! function each.
+//!
+//!     let status = run(alloc, &words, &mut files, &mut out);    // words: show oil engine.oil
 #![tactic(auto)]
 
-mod answer;
 mod bound_lone;
+mod certificates;
 mod check_lone;
-mod lone;
-mod outcome;
-mod report;
+mod images;
+mod oil_files;
 mod run;
 mod show_oil;
-mod status;
+mod solving;
 mod words;
 
 use crate::run::run;
-use crate::status::Status;
+use command_steps::Status;
 use std::io::ErrorKind;
 use std::process::ExitCode;
 use std::{env, io};

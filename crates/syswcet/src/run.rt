@@ -1,86 +1,79 @@
 //! The top call: words, files and a sink in, a status out.
-ghost use Rattle.std.specs.Prelude.{◌≡◌, ◌≢◌, ℕ, List, Ok, Some, IfOk};
-ghost use Rattle.wcet_io.specs.Causes.{Rose};
-ghost use Rattle.syswcet.specs.Words.{command_of, word};
-ghost use Rattle.syswcet.specs.Run.{HasAnswer, Ends, YesBounds, GreatestBounds, WritesLayout};
+ghost use Rattle.std.specs.Prelude.{◌≡◌, ◌⊎◌, Some, Err};
+ghost use Rattle.command_steps.specs.Running.{Ran, EndsSurely};
+ghost use Rattle.command_steps.specs.Steps.{IsCall, Says};
+ghost use Rattle.reports.specs.Refusals.{words_refusal};
+ghost use Rattle.syswcet.specs.Words.{command_of};
+ghost use Rattle.syswcet.specs.Commands.{StepsOf, files_of};
+ghost use Rattle.syswcet.specs.Headline.{Means};
 
-use crate::answer::Answer;
-use crate::lone::{Question, lone};
-use crate::report::write_text;
+use crate::bound_lone::bound_lone;
+use crate::check_lone::check_lone;
 use crate::show_oil::show_oil;
-use crate::status::Status;
 use crate::words::{Command, command_of};
+use command_steps::{Halt, Status, report};
 use listed::Memory;
+use reports::words_refusal;
 use std::alloc::Global;
-use wcet_io::{Files, Sink, SinkFault, SureFiles, SureSink, Words};
+use wcet_io::{Bytes, Files, Sink, SureFiles, SureSink, Words};
 
 /// Runs one command: `words` are those of the command line without the program's name, files are
 /// read by name, and the text of the answer is written to the sink.
 pub fn run<F: Files, O: Sink>(alloc: Global, words: &Words, files: &mut F, out: &mut O) -> Status
-    // The answer has its cause, and the sink holds what belongs to it.
-    ensures ends { Ends
-        (record { told = F.told files.old; before = F.faults files.old; after = F.faults files.new; failed = F.failed files.new })
-        (record { held = O.written out.old; holds = O.written out.new; before = O.faults out.old; after = O.faults out.new })
-        words.now result }
-    ensures read_fault { result ≡ Status.ReadFault → Rose (F.faults files.old) (F.faults files.new) }
-    ensures write_fault { result ≡ Status.WriteFault → Rose (O.faults out.old) (O.faults out.new) }
-    // What names hold doesn't change.
-    ensures kept { F.told files.new ≡ F.told files.old }
-    // Where `check lone` says yes, no activation lasts longer than the bound that it wrote.
-    ensures check_lone_bounds { result ≡ Status.Ok → command_of words.now ≡ Some Command.CheckLone → YesBounds
-        (record { told = F.told files.old; before = F.faults files.old; after = F.faults files.new; failed = F.failed files.new })
-        (record { held = O.written out.old; holds = O.written out.new; before = O.faults out.old; after = O.faults out.new })
-        (word words.now 2) }
-    // Where `bound lone` wrote a bound, it is the greatest value of the image's rows, and no activation lasts longer.
-    ensures bound_lone_bounds { (pivots : ℕ) → result ≡ Status.Ok → command_of words.now ≡ Some (Command.BoundLone pivots) → GreatestBounds
-        (record { told = F.told files.old; before = F.faults files.old; after = F.faults files.new; failed = F.failed files.new })
-        (record { held = O.written out.old; holds = O.written out.new; before = O.faults out.old; after = O.faults out.new })
-        (word words.now 2) }
-    // Where `show oil` ended with status 0, it wrote the layout of the tree that the file has.
-    ensures show_oil_layout { result ≡ Status.Ok → command_of words.now ≡ Some Command.ShowOil → WritesLayout
-        (record { told = F.told files.old; before = F.faults files.old; after = F.faults files.new; failed = F.failed files.new })
-        (record { held = O.written out.old; holds = O.written out.new; before = O.faults out.old; after = O.faults out.new })
-        (word words.now 2) }
+    // The run is that of the command's steps: which files were read in which order, what came of it,
+    // what was written in which pieces, and what the two objects tell of it.
+    ensures ran { Ran F.outside O.outside O.writes (files_of (command_of words.now))
+        (StepsOf (IsCall F.outside F.reads) (command_of words.now))
+        files.old files.new out.old out.new result }
+    // Where it ended with Ok, what was written means what the command is for.
+    ensures headline { result ≡ Status.Ok → Means F.outside F.reads files.old (command_of words.now)
+        (O.outside out.old) (O.outside out.new) }
 {
-    match answer(alloc, words, files) {
-        Ok(answer) => match write_text(answer.text(), out) {
-            Ok(()) => answer.status(),
-            Err(SinkFault::Failed) => Status::WriteFault,
-            Err(SinkFault::Memory) => Status::Memory,
-        },
-        Err(Memory) => Status::Memory,
-    }
+    let answered = answer(alloc, words, files);
+    report(alloc, answered, out)
 }
 
-/// A run over objects that never fail: no fault is answered.
+/// A run over objects that never fail ends with the command's answer or refusal, written whole, or
+/// with want of memory.
 pub fn run_surely(alloc: Global, words: &Words, files: &mut SureFiles, out: &mut SureSink) -> Status
-    ensures no_read_fault { result ≢ Status.ReadFault }
-    ensures no_write_fault { result ≢ Status.WriteFault }
+    ensures { EndsSurely
+        (StepsOf (IsCall ⟦<SureFiles as Files>⟧.outside ⟦<SureFiles as Files>⟧.reads)
+        (command_of words.now))
+        files.old files.new out.old out.new result }
 {
     run(alloc, words, files, out)
 }
 
-/// The answer to the words.
-fn answer<F: Files>(alloc: Global, words: &Words, files: &mut F) -> Result<Answer, Memory>
-    ensures answered { IfOk result (HasAnswer
-        (record { told = F.told files.old; before = F.faults files.old; after = F.faults files.new; failed = F.failed files.new })
-        words.now) }
-    ensures kept { F.told files.new ≡ F.told files.old }
+/// What the steps of the command that the words name give.
+fn answer<F: Files>(alloc: Global, words: &Words, files: &mut F) -> Result<Bytes, Halt>
+    ensures { StepsOf (IsCall F.outside F.reads) (command_of words.now) files.old result files.new
+        ⊎ ((files.new ≡ files.old) × (result ≡ Err Halt.Memory)) }
 {
-    match command_of(words) {
-        None => Answer::words(alloc),
-        Some(Command::CheckLone) => {
-            lone(alloc, Question::Check, words.get(2), words.get(3), files)
-        }
-        Some(Command::BoundLone { pivots }) => {
-            lone(
-                alloc,
-                Question::Bound { pivots },
-                words.get(2),
-                words.get(3),
-                files,
-            )
-        }
-        Some(Command::ShowOil) => show_oil(alloc, words.get(2), files),
+    match command_of(alloc, words) {
+        Ok(Some(command)) => answer_command(alloc, &command, files),
+        Ok(None) => no_command(alloc),
+        Err(Memory) => Err(Halt::Memory),
+    }
+}
+
+/// The refusal of words that have no shape.
+fn no_command(alloc: Global) -> Result<Bytes, Halt>
+    ensures { Says (λ given. given ≡ Err words_refusal) result }
+{
+    Err(Halt::Refused(words_refusal(alloc)?))
+}
+
+/// What the command's steps give.
+fn answer_command<F: Files>(alloc: Global, command: &Command, files: &mut F) -> Result<Bytes, Halt>
+    ensures { StepsOf (IsCall F.outside F.reads) (Some command.now) files.old result files.new }
+{
+    match command {
+        Command::CheckLone { image, certificate } => check_lone(alloc, image, certificate, files),
+        Command::BoundLone {
+            image,
+            states,
+            pivots,
+        } => bound_lone(alloc, image, states, *pivots, files),
+        Command::ShowOil { oil } => show_oil(alloc, oil, files),
     }
 }

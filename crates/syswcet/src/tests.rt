@@ -1,9 +1,10 @@
 //! Runs over files and a sink in memory.
-use crate::outcome::bound_answer;
 use crate::run::run;
-use crate::status::Status;
+use crate::solving::bound_of;
+use command_steps::{Halt, Reason, Status};
 use listed::Memory;
 use std::alloc::Global;
+use std::process::Abort;
 use std::test::Fail;
 use wcet_io::{Bytes, MemFiles, MemSink, Text, Words};
 use whole_rows::{Row, Rows, Terms};
@@ -113,195 +114,77 @@ fn fail(files: &mut MemFiles, out: &mut MemSink, failing: Failing) -> Result<(),
     Ok(())
 }
 
+/// Runs the words, which a space parts, as `outcome` does, and compares the status and what was written.
+fn run_row(
+    rt: &impl Abort,
+    alloc: Global,
+    words: &str,
+    beside: &str,
+    failing: Failing,
+    text: &str,
+    status: Status,
+) -> Result<(), Memory> {
+    let mut given = Vec::new(alloc);
+    for word in words.split(' ') {
+        given.push(word)?;
+    }
+    let (ended, out) = outcome(alloc, given.as_slice(), beside, failing)?;
+    assert_eq!(rt; ended, status);
+    assert_eq!(rt; out.written(), text.as_bytes());
+    Ok(())
+}
+
 #[test]
+#[rattlefmt::skip]
 fn a_certificate_is_judged_from_bytes_to_the_answer(rt: HostRuntime) -> Result<(), Fail> {
-    let check: &[&str] = &["check", "lone", "a", "c"];
     for (words, certificate, failing, text, status) in [
-        (check, GOOD, Failing::Nothing, "yes T 13\n", Status::Ok),
-        (
-            check,
-            BOUND_TOO_LOW,
-            Failing::Nothing,
-            "no bound\n",
-            Status::No,
-        ),
-        (
-            check,
-            MULTIPLIER_TOO_LOW,
-            Failing::Nothing,
-            "no column 3\n",
-            Status::No,
-        ),
-        (
-            check,
-            ONE_MULTIPLIER_LESS,
-            Failing::Nothing,
-            "no count 8 9\n",
-            Status::No,
-        ),
-        (
-            check,
-            NO_STATE_AFTER,
-            Failing::Nothing,
-            "no state 0 transition 0\n",
-            Status::No,
-        ),
-        (
-            check,
-            DENOMINATOR_ZERO,
-            Failing::Nothing,
-            "input c\n",
-            Status::Input,
-        ),
-        (
-            &["check", "lone", "b", "c"],
-            GOOD,
-            Failing::Nothing,
-            "elf Unaligned\n",
-            Status::Input,
-        ),
-        (
-            &["check", "lone", "d", "c"],
-            GOOD,
-            Failing::Nothing,
-            "input d\n",
-            Status::Input,
-        ),
-        (
-            &["bound", "a", "b"],
-            GOOD,
-            Failing::Nothing,
-            "words\n",
-            Status::Words,
-        ),
-        (check, GOOD, Failing::Read, "read a\n", Status::ReadFault),
-        (check, GOOD, Failing::Write, "", Status::WriteFault),
-        (check, GOOD, Failing::Both, "", Status::WriteFault),
+        ("check lone a c", GOOD, Failing::Nothing, "yes T 13\n", Status::Ok),
+        ("check lone a c", BOUND_TOO_LOW, Failing::Nothing, "no bound\n", Status::No),
+        ("check lone a c", MULTIPLIER_TOO_LOW, Failing::Nothing, "no column 3\n", Status::No),
+        ("check lone a c", ONE_MULTIPLIER_LESS, Failing::Nothing, "no count 8 9\n", Status::No),
+        ("check lone a c", NO_STATE_AFTER, Failing::Nothing, "no state 0 transition 0\n", Status::No),
+        ("check lone a c", DENOMINATOR_ZERO, Failing::Nothing, "input c\n", Status::Input),
+        ("check lone b c", GOOD, Failing::Nothing, "elf Unaligned\n", Status::Input),
+        ("check lone d c", GOOD, Failing::Nothing, "input d\n", Status::Input),
+        // The image's fault is answered before the certificate is read.
+        ("check lone d none", GOOD, Failing::Nothing, "input d\n", Status::Input),
+        ("check lone a none", GOOD, Failing::Nothing, "read none\n", Status::ReadFault),
+        ("bound a b", GOOD, Failing::Nothing, "words\n", Status::Words),
+        ("check lone a c", GOOD, Failing::Read, "read a\n", Status::ReadFault),
+        ("check lone a c", GOOD, Failing::Write, "", Status::WriteFault),
+        ("check lone a c", GOOD, Failing::Both, "", Status::WriteFault),
     ] {
-        let (ended, out) = outcome(rt.alloc(), words, certificate, failing)?;
-        assert_eq!(rt; ended, status);
-        assert_eq!(rt; out.written(), text.as_bytes());
+        run_row(&rt, rt.alloc(), words, certificate, failing, text, status)?;
     }
     Ok(())
 }
 
 #[test]
+#[rattlefmt::skip]
 fn the_greatest_value_of_the_rows_is_found(rt: HostRuntime) -> Result<(), Fail> {
     for (words, states, failing, text, status) in [
-        ("a k", CLOSED, Failing::Nothing, "T 13\n", Status::Ok),
-        (
-            "a k --pivots 1",
-            CLOSED,
-            Failing::Nothing,
-            "budget pivots 1\n",
-            Status::Budget,
-        ),
-        (
-            "a k --pivots 0010000000",
-            CLOSED,
-            Failing::Nothing,
-            "T 13\n",
-            Status::Ok,
-        ),
-        (
-            "a k",
-            NOT_CLOSED,
-            Failing::Nothing,
-            "no state 0 transition 0\n",
-            Status::No,
-        ),
-        (
-            "a k --pivots 1",
-            NO_INITIAL,
-            Failing::Nothing,
-            "no initial Main\n",
-            Status::No,
-        ),
-        (
-            "a k",
-            UNDER_A_LOCK,
-            Failing::Nothing,
-            "no misuse state 2 code 2\n",
-            Status::No,
-        ),
-        (
-            "a k",
-            LISTED_TWICE,
-            Failing::Nothing,
-            "input k\n",
-            Status::Input,
-        ),
-        ("a k", "[", Failing::Nothing, "input k\n", Status::Input),
-        (
-            "b k",
-            CLOSED,
-            Failing::Nothing,
-            "elf Unaligned\n",
-            Status::Input,
-        ),
-        ("d k", "[", Failing::Nothing, "input d\n", Status::Input),
-        ("a k", CLOSED, Failing::Read, "read a\n", Status::ReadFault),
-        ("a k", CLOSED, Failing::Write, "", Status::WriteFault),
-        (
-            "--pivots 5",
-            CLOSED,
-            Failing::Nothing,
-            "read --pivots\n",
-            Status::ReadFault,
-        ),
-        ("a", CLOSED, Failing::Nothing, "words\n", Status::Words),
-        (
-            "a k --pivots",
-            CLOSED,
-            Failing::Nothing,
-            "words\n",
-            Status::Words,
-        ),
-        (
-            "a k --pivots 0",
-            CLOSED,
-            Failing::Nothing,
-            "words\n",
-            Status::Words,
-        ),
-        (
-            "a k --pivots 10000001",
-            CLOSED,
-            Failing::Nothing,
-            "words\n",
-            Status::Words,
-        ),
-        (
-            "a k --pivots 00000000001",
-            CLOSED,
-            Failing::Nothing,
-            "words\n",
-            Status::Words,
-        ),
-        (
-            "a k --pivots +1",
-            CLOSED,
-            Failing::Nothing,
-            "words\n",
-            Status::Words,
-        ),
-        (
-            "a k --pivot 1",
-            CLOSED,
-            Failing::Nothing,
-            "words\n",
-            Status::Words,
-        ),
+        ("bound lone a k", CLOSED, Failing::Nothing, "T 13\n", Status::Ok),
+        ("bound lone a k --pivots 1", CLOSED, Failing::Nothing, "budget pivots 1\n", Status::Budget),
+        ("bound lone a k --pivots 0010000000", CLOSED, Failing::Nothing, "T 13\n", Status::Ok),
+        ("bound lone a k", NOT_CLOSED, Failing::Nothing, "no state 0 transition 0\n", Status::No),
+        ("bound lone a k --pivots 1", NO_INITIAL, Failing::Nothing, "no initial Main\n", Status::No),
+        ("bound lone a k", UNDER_A_LOCK, Failing::Nothing, "no misuse state 2 code 2\n", Status::No),
+        ("bound lone a k", LISTED_TWICE, Failing::Nothing, "input k\n", Status::Input),
+        ("bound lone a k", "[", Failing::Nothing, "input k\n", Status::Input),
+        ("bound lone b k", CLOSED, Failing::Nothing, "elf Unaligned\n", Status::Input),
+        ("bound lone d k", "[", Failing::Nothing, "input d\n", Status::Input),
+        ("bound lone a k", CLOSED, Failing::Read, "read a\n", Status::ReadFault),
+        ("bound lone a k", CLOSED, Failing::Write, "", Status::WriteFault),
+        ("bound lone --pivots 5", CLOSED, Failing::Nothing, "read --pivots\n", Status::ReadFault),
+        ("bound lone a", CLOSED, Failing::Nothing, "words\n", Status::Words),
+        ("bound lone a k --pivots", CLOSED, Failing::Nothing, "words\n", Status::Words),
+        ("bound lone a k --pivots 0", CLOSED, Failing::Nothing, "words\n", Status::Words),
+        ("bound lone a k --pivots 10000001", CLOSED, Failing::Nothing, "words\n", Status::Words),
+        ("bound lone a k --pivots 00000000001", CLOSED, Failing::Nothing, "words\n", Status::Words),
+        ("bound lone a k --pivots +1", CLOSED, Failing::Nothing, "words\n", Status::Words),
+        ("bound lone a k --pivot 1", CLOSED, Failing::Nothing, "words\n", Status::Words),
     ] {
-        let mut given = Vec::new(rt.alloc());
-        given.push("bound")?;
-        given.push("lone")?;
-        for word in words.split(' ') {
-            given.push(word)?;
-        }
-        let (ended, out) = outcome(rt.alloc(), given.as_slice(), states, failing)?;
-        assert_eq!(rt; ended, status);
-        assert_eq!(rt; out.written(), text.as_bytes());
+        run_row(&rt, rt.alloc(), words, states, failing, text, status)?;
     }
     Ok(())
 }
@@ -321,51 +204,17 @@ fn shown(alloc: Global, text: &[u8], failing: Failing) -> Result<(Status, MemSin
 }
 
 #[test]
+#[rattlefmt::skip]
 fn oil_files_are_judged_and_written_in_one_layout(rt: HostRuntime) -> Result<(), Fail> {
     for (file, failing, text, status) in [
         (ONE_TASK, Failing::Nothing, ONE_TASK_LAYOUT, Status::Ok),
-        (
-            ONE_TASK_LAYOUT,
-            Failing::Nothing,
-            ONE_TASK_LAYOUT,
-            Status::Ok,
-        ),
-        (
-            "OIL_VERSION = \"2.5\";\nCPU C {",
-            Failing::Nothing,
-            "oil line 2 Expected\n",
-            Status::Input,
-        ),
-        (
-            "OIL_VERSION=\"2.5\";CPU A{#include};",
-            Failing::Nothing,
-            "oil line 1 Include\n",
-            Status::Input,
-        ),
-        (
-            "OIL_VERSION=\"2.5\";\nCPU /* A{};\n",
-            Failing::Nothing,
-            "oil line 2 Comment\n",
-            Status::Input,
-        ),
-        (
-            ONE_PRIORITY_FOR_TWO,
-            Failing::Nothing,
-            "model object 3 SamePriority\n",
-            Status::Input,
-        ),
-        (
-            INTERNAL_AND_NOT_PREEMPTABLE,
-            Failing::Nothing,
-            "model object 3 BadValue\n",
-            Status::Input,
-        ),
-        (
-            "OIL_VERSION=\"2.5\";CPU A{};",
-            Failing::Nothing,
-            "model object 0 Missing\n",
-            Status::Input,
-        ),
+        (ONE_TASK_LAYOUT, Failing::Nothing, ONE_TASK_LAYOUT, Status::Ok),
+        ("OIL_VERSION = \"2.5\";\nCPU C {", Failing::Nothing, "oil line 2 Expected\n", Status::Input),
+        ("OIL_VERSION=\"2.5\";CPU A{#include};", Failing::Nothing, "oil line 1 Include\n", Status::Input),
+        ("OIL_VERSION=\"2.5\";\nCPU /* A{};\n", Failing::Nothing, "oil line 2 Comment\n", Status::Input),
+        (ONE_PRIORITY_FOR_TWO, Failing::Nothing, "model object 3 SamePriority\n", Status::Input),
+        (INTERNAL_AND_NOT_PREEMPTABLE, Failing::Nothing, "model object 3 BadValue\n", Status::Input),
+        ("OIL_VERSION=\"2.5\";CPU A{};", Failing::Nothing, "model object 0 Missing\n", Status::Input),
         (ONE_TASK, Failing::Read, "read a\n", Status::ReadFault),
         (ONE_TASK, Failing::Write, "", Status::WriteFault),
     ] {
@@ -389,12 +238,16 @@ fn a_file_past_its_limit_is_refused_by_its_length(rt: HostRuntime) -> Result<(),
 }
 
 #[test]
-fn a_ray_is_written_without_its_zeros(rt: HostRuntime) -> Result<(), Fail> {
+fn rows_without_a_greatest_value_are_refused(rt: HostRuntime) -> Result<(), Fail> {
     let costs = Row::from_slice(rt.alloc(), &[0, 1])?;
     let mut rows = Rows::made(rt.alloc(), &costs)?;
     rows.push_row(&Terms::new(rt.alloc()), 1)?;
-    let answer = bound_answer(rt.alloc(), "T", &rows, 9)?;
-    assert_eq!(rt; answer.status(), Status::Unbounded);
-    assert_eq!(rt; answer.text(), b"unbounded\n1 1\n".as_slice());
+    match bound_of(rt.alloc(), "T", &rows, 9) {
+        Err(Halt::Refused(refusal)) => {
+            assert_eq!(rt; refusal.reason, Reason::Unbounded);
+            assert_eq!(rt; refusal.text.as_slice(), b"unbounded\n1 1\n".as_slice());
+        }
+        _ => return Err("the rows have no greatest value")?,
+    }
     Ok(())
 }

@@ -1,9 +1,12 @@
 //! What the command words ask for.
-ghost use Rattle.std.specs.Prelude.{◌≡◌, ◌≤◌, ◌&&◌, nat_lt, nat_le, length, bytes_eq};
+ghost use Rattle.std.specs.Prelude.{◌≡◌, ◌<◌, ◌≤◌, ◌&&◌, nat_lt, nat_le, length, bytes_eq, IfOk};
 ghost use Rattle.std.specs.Char.{is_ascii_digit};
 ghost use Rattle.std.specs.List.{list_all};
-ghost use Rattle.syswcet.specs.Words.{command_of, is_shape, is_number, number_of, pivots_of};
+ghost use Rattle.std.specs.Option.{option_map};
+ghost use Rattle.syswcet.specs.Words.{word, check_lone, bound_lone, show_oil, command_of, is_shape, is_number, number_of, pivots_of};
 
+use listed::Memory;
+use std::alloc::Global;
 use wcet_io::{Text, Words};
 
 /// The limit on pivots where the words name none, and the greatest that they may name.
@@ -11,38 +14,88 @@ const USUAL_PIVOTS: u32 = 100_000;
 
 const MOST_PIVOTS: u64 = 10_000_000;
 
-/// A command. The names of its files are the words after the first two.
-#[derive(Clone, Copy, Debug, PartialEq, Eq)]
+/// A command, with its files by name.
+#[derive(Debug, Drop)]
 pub enum Command {
     /// `check lone IMAGE CERT` judges a certificate of a lone image.
-    CheckLone,
+    CheckLone {
+        image: Text,
+        certificate: Text,
+    },
     /// `bound lone IMAGE STATES` finds the greatest value of the rows of a lone image, with at most
     /// that many pivots, which `--pivots N` sets.
-    BoundLone { pivots: u32 },
+    BoundLone {
+        image: Text,
+        states: Text,
+        pivots: u32,
+    },
     /// `show oil OIL` writes an OIL file in the one layout.
-    ShowOil,
+    ShowOil {
+        oil: Text,
+    },
 }
 
 /// The command of the words; `None` exactly where they have no shape.
-pub fn command_of(words: &Words) -> Option<Command>
-    ensures { result ≡ command_of words.now }
+pub fn command_of(alloc: Global, words: &Words) -> Result<Option<Command>, Memory>
+    ensures { IfOk result (λ command. command ≡ command_of words.now) }
 {
     if is_shape(words, "check", "lone", 4) {
-        return Some(Command::CheckLone);
+        return check_lone(alloc, words);
     }
     if is_shape(words, "bound", "lone", 4) {
-        return Some(Command::BoundLone {
-            pivots: USUAL_PIVOTS,
-        });
+        return bound_lone(alloc, words, Some(USUAL_PIVOTS));
     }
     if is_shape(words, "bound", "lone", 6) && is(words.get(4), "--pivots") {
-        let pivots = pivots_of(words.get(5))?;
-        return Some(Command::BoundLone { pivots });
+        return bound_lone(alloc, words, pivots_of(words.get(5)));
     }
     if is_shape(words, "show", "oil", 3) {
-        return Some(Command::ShowOil);
+        return show_oil(alloc, words);
     }
-    None
+    Ok(None)
+}
+
+fn check_lone(alloc: Global, words: &Words) -> Result<Option<Command>, Memory>
+    requires { length words.now ≡ 4 }
+    ensures { IfOk result (λ command. command ≡ Some (check_lone words.now)) }
+{
+    let image = word(alloc, words, 2)?;
+    let certificate = word(alloc, words, 3)?;
+    Ok(Some(Command::CheckLone { image, certificate }))
+}
+
+/// The command with its limit on pivots, if the words name one.
+fn bound_lone(alloc: Global, words: &Words, pivots: Option<u32>) -> Result<Option<Command>, Memory>
+    requires { 4 ≤ length words.now }
+    ensures { IfOk result (λ command. command ≡ option_map (bound_lone words.now) pivots) }
+{
+    match pivots {
+        Some(pivots) => {
+            let image = word(alloc, words, 2)?;
+            let states = word(alloc, words, 3)?;
+            Ok(Some(Command::BoundLone {
+                image,
+                states,
+                pivots,
+            }))
+        }
+        None => Ok(None),
+    }
+}
+
+fn show_oil(alloc: Global, words: &Words) -> Result<Option<Command>, Memory>
+    requires { length words.now ≡ 3 }
+    ensures { IfOk result (λ command. command ≡ Some (show_oil words.now)) }
+{
+    let oil = word(alloc, words, 2)?;
+    Ok(Some(Command::ShowOil { oil }))
+}
+
+/// The word at a place, counted from 0.
+fn word(alloc: Global, words: &Words, place: usize) -> Result<Text, Memory>
+    requires { place < length words.now }
+    ensures { IfOk result (λ text. text ≡ word words.now place) }
+{
+    Text::from_str(alloc, words.get(place).as_str())
 }
 
 /// Whether there are so many words, two at least, and the first two are these.

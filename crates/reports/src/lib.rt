@@ -1,0 +1,22 @@
+//! All texts of the program: what its commands answer, and their refusals. A text that names a file
+//! that gave no bytes stands with the step that reads it.
+//!
+//!     let answer = yes_text(alloc, "T", 13)?;            // "yes T 13\n"
+//!     let refusal = oil_refusal(alloc, 2, kind)?;        // "oil line 2 Expected\n"
+#![tactic(auto)]
+
+mod oil;
+mod refusals;
+mod solved;
+mod verdicts;
+
+pub use oil::{model_refusal, oil_refusal};
+pub use refusals::{input_refusal, unaligned_refusal, words_refusal};
+pub use solved::{
+    bound_text, entries_refusal, multiplier_refusal, pivots_refusal, unbounded_refusal,
+    wide_refusal,
+};
+pub use verdicts::{no_refusal, yes_text};
+
+#[cfg(test)]
+mod tests;

@@ -1,0 +1,15 @@
+use Rattle.std.proofs.Common.{Some, sym, subst}
+use Rattle.command_steps.specs.Steps.{IsCall}
+use Rattle.syswcet.specs.declared.words.Command.{Command}
+use Rattle.syswcet.specs.Commands.{StepsOf}
+use Rattle.syswcet.proofs.run.answer_command.Goals as goal
+
+pub returns-in-CheckLone : goal.returns-in-CheckLone
+returns-in-CheckLone g c =
+    let P : Command → Type 0 = λ k. StepsOf (IsCall g.F.Files.outside g.F.Files.reads) (Some k) c.args.files.now c.check_lone.result c.check_lone.new.files in
+    subst P (sym c.in-CheckLone.is) c.check_lone.ensures
+
+pub returns-in-BoundLone : goal.returns-in-BoundLone
+returns-in-BoundLone g c =
+    let P : Command → Type 0 = λ k. StepsOf (IsCall g.F.Files.outside g.F.Files.reads) (Some k) c.args.files.now c.bound_lone.result c.bound_lone.new.files in
+    subst P (sym c.in-BoundLone.is) c.bound_lone.ensures
