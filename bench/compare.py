@@ -3,15 +3,19 @@
 
     bench/compare.py PROGRAM [FILE.json ..]
 
-PROGRAM is the built `solve_rows`. Without files, the lists in bench/rows, these lists side by side,
-and four generated ones are taken. Each list is solved by each program in turn, in the same run; the peers get it in LP
-format. Printed are the milliseconds of each (for `solve` the call alone, for a peer its whole run),
-the ratios peer / solve, and whether the values agree. A peer that isn't installed is skipped.
+PROGRAM is the built `bench_solve`. Without files, the lists in bench/rows, these lists side by side,
+and generated ones are taken: chains, flows, long code, states times nodes, loops with bounds, some of
+them with 1,500 rows and more, and one with a ray. Each list is solved by each program in turn, in the
+same run; the peers get it in LP format. Printed are the milliseconds of each (for `solve` the call
+alone, for a peer its whole run), the ratios peer / solve of these and of the processor time of whole
+runs, which tells more on a busy machine, and whether the values agree. A peer that isn't installed is
+skipped, and one that takes a minute has no answer.
 """
 import json
 import os
 import random
 import re
+import resource
 import shutil
 import subprocess
 import sys
@@ -76,6 +80,77 @@ def flows(columns, seed):
     return {"costs": costs, "rows": rows}
 
 
+class Flow:
+    """Rows of counts of edges: each node is left as often as it is come to, at most."""
+
+    def __init__(self, seed):
+        self.pick = random.Random(seed)
+        self.costs, self.into, self.out, self.more = [], {}, {}, []
+
+    def edge(self, start, end):
+        column = len(self.costs)
+        self.costs.append(self.pick.randrange(1, 60))
+        self.out.setdefault(start, []).append(column)
+        self.into.setdefault(end, []).append(column)
+        return column
+
+    def at_most(self, column, entries, right=0):
+        self.more.append({"terms": sorted([[column, 1], *entries]), "right": right})
+
+    def rows(self):
+        rows = [{"terms": [[column, 1] for column in self.out[0]], "right": 1}]
+        for node in sorted(self.out):
+            if node:
+                terms = [[c, 1] for c in self.out[node]] + [[c, -1] for c in self.into.get(node, [])]
+                rows.append({"terms": sorted(terms), "right": 0})
+        return {"costs": self.costs, "rows": rows + self.more}
+
+
+def code(nodes, seed):
+    """A long chain of code, where one node in eight branches past the next ones."""
+    flow = Flow(seed)
+    for node in range(nodes):
+        flow.edge(node, node + 1)
+        if node % 8 == 3:
+            flow.edge(node, min(nodes, node + 2 + flow.pick.randrange(5)))
+    return flow.rows()
+
+
+def states(count, nodes, seed):
+    """In each of many states the same code, whose end leads on to one or two later states."""
+    flow = Flow(seed)
+    for state in range(count):
+        first = state * nodes
+        for node in range(first, first + nodes - 1):
+            flow.edge(node, node + 1)
+        for later in sorted({state + 1, state + 1 + flow.pick.randrange(4)}):
+            flow.edge(first + nodes - 1, min(later, count) * nodes)
+    return flow.rows()
+
+
+def loops(count, body, seed):
+    """A chain of loops: each goes back at most a fixed number of times for each time it is come to."""
+    flow = Flow(seed)
+    for loop in range(count):
+        first = loop * body
+        entry = flow.edge(first, first + 1)
+        for node in range(first + 1, first + body - 1):
+            flow.edge(node, node + 1)
+        back = flow.edge(first + body - 1, first + 1)
+        flow.edge(first + body - 1, first + body)
+        flow.at_most(back, [[entry, -flow.pick.randrange(2, 30)]])
+    return flow.rows()
+
+
+def ray(nodes, seed):
+    """Long code with a way back that nothing bounds."""
+    flow = Flow(seed)
+    for node in range(nodes):
+        flow.edge(node, node + 1)
+    flow.edge(nodes - 3, nodes // 2)
+    return flow.rows()
+
+
 def side_by_side(lists):
     """The rows of several lists, each over columns of its own."""
     costs, rows = [], []
@@ -100,35 +175,47 @@ def as_lp(data):
 
 
 def timed(command):
-    start = time.perf_counter()
-    done = subprocess.run(command, capture_output=True, text=True)
-    return 1000 * (time.perf_counter() - start), done.stdout
+    """Milliseconds by the clock, milliseconds of the processor, and what was written: none after a minute."""
+    start, used = time.perf_counter(), resource.getrusage(resource.RUSAGE_CHILDREN).ru_utime
+    try:
+        out = subprocess.run(command, capture_output=True, text=True, timeout=60).stdout
+    except subprocess.TimeoutExpired:
+        out = ""
+    end, spent = time.perf_counter(), resource.getrusage(resource.RUSAGE_CHILDREN).ru_utime
+    return 1000 * (end - start), 1000 * (spent - used), out
 
 
 def solved(program, path):
-    _, out = timed([program, path])
+    _, cpu, out = timed([program, path])
     fields = out.split()
+    if "no bound" in out:
+        return {"pivots": 0, "bound": "none", "ms": int(fields[-1]) / 1000, "cpu": cpu}
     if len(fields) != 5:
         return None
-    return {"pivots": int(fields[1]), "bound": int(fields[3]), "ms": int(fields[4]) / 1000}
+    return {"pivots": int(fields[1]), "bound": int(fields[3]), "ms": int(fields[4]) / 1000, "cpu": cpu}
 
 
 def by_glpsol(lp):
-    ms, out = timed(["glpsol", "--exact", "--lp", lp, "--max"])
+    ms, cpu, out = timed(["glpsol", "--exact", "--lp", lp, "--max"])
+    if "UNBOUNDED" in out.upper():
+        return ms, cpu, "none"
     values = re.findall(r"objval =\s+(\S+)", out)
-    return ms, int(float(values[-1]) + 1e-6) if values else None
+    return ms, cpu, int(float(values[-1]) + 1e-6) if values else None
 
 
 def by_esolver(lp, folder):
     solution = os.path.join(folder, "solution")
-    ms, _ = timed(["esolver", "-O", solution, "-L", lp])
+    ms, cpu, _ = timed(["esolver", "-O", solution, "-L", lp])
     for name in (solution, solution + ".sol"):
         if os.path.exists(name):
             with open(name) as text:
-                value = re.search(r"[Vv]alue\s*=\s*(\S+)", text.read())
+                told = text.read()
             os.remove(name)
-            return ms, Fraction(value.group(1)).__floor__() if value else None
-    return ms, None
+            if "UNBOUNDED" in told.upper():
+                return ms, cpu, "none"
+            value = re.search(r"[Vv]alue\s*=\s*(\S+)", told)
+            return ms, cpu, Fraction(value.group(1)).__floor__() if value else None
+    return ms, cpu, None
 
 
 def main():
@@ -139,6 +226,10 @@ def main():
             paths = sorted(os.path.join(kept, name) for name in os.listdir(kept))
             made = {f"generated_{columns}": chains(columns, columns) for columns in (200, 400, 800)}
             made["flows_930"] = flows(930, 1)
+            made.update({f"code_{nodes}": code(nodes, nodes) for nodes in (400, 800, 1600)})
+            made.update({f"states_{count}x12": states(count, 12, count) for count in (40, 130)})
+            made.update({f"loops_{count}x10": loops(count, 10, count) for count in (40, 80, 150)})
+            made["ray_600"] = ray(600, 1)
             made["side_by_side"] = side_by_side([json.load(open(path)) for path in paths])
             for name, data in made.items():
                 paths.append(os.path.join(folder, name + ".json"))
@@ -161,9 +252,9 @@ def main():
                 continue
             told = [f"{name}: {len(data['rows'])} rows, {len(data['costs'])} columns, {mine['pivots']} pivots, bound {mine['bound']}, {mine['ms']:.1f} ms"]
             for peer in peers:
-                ms, bound = by_glpsol(lp) if peer == "glpsol" else by_esolver(lp, folder)
+                ms, cpu, bound = by_glpsol(lp) if peer == "glpsol" else by_esolver(lp, folder)
                 agree = "agrees" if bound == mine["bound"] else f"DISAGREES: {bound}"
-                told.append(f"{peer} {ms:.1f} ms, ratio {ms / max(mine['ms'], 0.001):.1f}, {agree}")
+                told.append(f"{peer} {ms:.1f} ms, ratio {ms / max(mine['ms'], 0.001):.1f}, of processor time {cpu / max(mine['cpu'], 0.1):.1f}, {agree}")
             if "pivots" in data and data["pivots"] != mine["pivots"]:
                 told.append(f"DISAGREES: {data['pivots']} pivots are known")
             print("; ".join(told))

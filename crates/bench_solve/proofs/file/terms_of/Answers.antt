@@ -1,5 +1,5 @@
-use Rattle.solve_rows.proofs.TermLemmas.{rising_terms}
-use Rattle.solve_rows.proofs.file.terms_of.Goals as goal
+use Rattle.bench_solve.proofs.TermLemmas.{rising_terms}
+use Rattle.bench_solve.proofs.file.terms_of.Goals as goal
 
 pub returns-then-columns_rise-clause-terms : goal.returns-then-columns_rise-clause-terms
 returns-then-columns_rise-clause-terms c =

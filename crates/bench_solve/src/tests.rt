@@ -1,12 +1,12 @@
-use crate::file::rows_of;
-use json_fields::Refusal;
+use crate::file::{RowsFault, rows_of};
+use listed::Fault;
 use serde_json::Value;
 use std::alloc::Global;
 use std::test::*;
 use whole_rows::Rows;
 
 // Greatest 3 x + 2 y, where x - y is at most 4, with the right side to be written.
-fn rows_with(alloc: Global, right: &str) -> Result<Result<Rows, Refusal>, Fail> {
+fn rows_with(alloc: Global, right: &str) -> Result<Result<Rows, RowsFault>, Fail> {
     let text = format!(in alloc;
         "{{\"costs\":[3,2],\"rows\":[{{\"terms\":[[0,1],[1,-1]],\"right\":{right}}}]}}"
     )?;
@@ -20,7 +20,7 @@ fn memory_is_not_wanted(rt: HostRuntime) -> Result<(), Fail> {
     assert_eq!(rt; rows.row_count(), 1);
     for right in ["-1", "4.0", "null", "9223372036854775808"] {
         let refused = rows_with(rt.alloc(), right)?;
-        assert!(rt; matches!(refused, Err(Refusal::Refused)));
+        assert!(rt; matches!(refused, Err(Fault::Kind(_))));
     }
     Ok(())
 }

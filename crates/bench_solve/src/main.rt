@@ -6,7 +6,7 @@ mod file;
 
 use crate::file::rows_of;
 use anyhow::{Result, anyhow};
-use json_fields::Refusal;
+use listed::Fault;
 use serde_json::Value;
 use std::alloc::Global;
 use std::rt::{Clock, Env, Files};
@@ -22,8 +22,8 @@ fn read_rows<R: Files + AllocGlobal>(rt: &R, path: &str) -> Result<Rows> {
     let data = Value::from_str(rt.alloc(), text.as_str()).map_err(|_| anyhow!("no JSON"))?;
     match rows_of(rt.alloc(), &data) {
         Ok(rows) => Ok(rows),
-        Err(Refusal::Refused) => Err(anyhow!("no rows")),
-        Err(Refusal::Memory) => Err(anyhow!("out of memory")),
+        Err(Fault::Kind(_)) => Err(anyhow!("no rows")),
+        Err(Fault::Memory) => Err(anyhow!("out of memory")),
     }
 }
 

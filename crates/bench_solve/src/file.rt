@@ -2,17 +2,28 @@
 
 ghost use Rattle.std.specs.Prelude.{◌≡◌, ◌<◌, ◌≤ℤ◌, All, IfOk, IfSome, length, map, option_map, pos};
 ghost use Rattle.serde_json.specs.View.{view};
-ghost use Rattle.json_fields.specs.Lists.{all_of};
-ghost use Rattle.json_fields.specs.Refusals.{Gives};
+ghost use Rattle.listed.specs.Faults.{Gives};
+ghost use Rattle.listed.specs.Lists.{all_of};
 ghost use Rattle.whole_rows.specs.Row.{IsInRange};
 ghost use Rattle.whole_rows.specs.Terms.{IsTerm, AreTerms};
-ghost use Rattle.solve_rows.specs.RowsFile as words;
+ghost use Rattle.bench_solve.specs.RowsFile as words;
 
-use json_fields::{Refusal, list_in};
-use listed::ListedNumbers;
+use json_fields::list_in;
+use listed::{Fault, ListedNumbers};
 use serde_json::Value;
 use std::alloc::Global;
 use whole_rows::{Row, Rows, Term, Terms};
+
+/// What is wrong with a JSON value that is no list of rows.
+#[derive(Clone, Copy, Debug, PartialEq, Eq)]
+pub enum RowsKind {
+    Shape,
+}
+
+/// Why no rows were read.
+pub type RowsFault = Fault<RowsKind>;
+
+const NO_ROWS: RowsFault = Fault::Kind(RowsKind::Shape);
 
 /// A row of a file: its terms, and its right side.
 #[derive(Drop)]
@@ -24,23 +35,23 @@ struct FileRow {
 /// The rows of `{"costs": [..], "rows": [{"terms": [[COLUMN, ENTRY], ..], "right": NUMBER}, ..]}`.
 /// A row has its terms in order of columns, none with the entry 0, and no negative right side.
 #[tactic(auto, unfolding(crate::specs::RowsFile::rows_in))]
-pub fn rows_of(alloc: Global, value: &Value) -> Result<Rows, Refusal>
+pub fn rows_of(alloc: Global, value: &Value) -> Result<Rows, RowsFault>
     ensures { Gives result (words.rows_in (view value.now)) }
 {
-    let costs = list_at(value, "costs").ok_or(Refusal::Refused)?;
+    let costs = list_at(value, "costs").ok_or(NO_ROWS)?;
     let costs = costs_of(alloc, costs)?;
-    let rows = list_at(value, "rows").ok_or(Refusal::Refused)?;
+    let rows = list_at(value, "rows").ok_or(NO_ROWS)?;
     each_row(alloc, Rows::made(alloc, &costs)?, rows)
 }
 
-fn costs_of(alloc: Global, values: &[Value]) -> Result<Row, Refusal>
-    ensures { Gives result (all_of words.integer_in (map view values.now)) }
+fn costs_of(alloc: Global, values: &[Value]) -> Result<Row, RowsFault>
+    ensures { Gives result (all_of words.cost_in (map view values.now)) }
 {
     let mut costs = ListedNumbers::new(alloc);
     for value in values {
         match cost_in(value) {
             Some(cost) => costs.push(cost)?,
-            None => return Err(Refusal::Refused),
+            None => return Err(NO_ROWS),
         }
     }
     Ok(Row::from_vec(costs.into_vec()))
@@ -55,8 +66,8 @@ fn cost_in(value: &Value) -> Option<i128>
 }
 
 /// The rows with those of the values behind them.
-fn each_row(alloc: Global, before: Rows, values: &[Value]) -> Result<Rows, Refusal>
-    ensures { Gives result (option_map (words.with_rows before)
+fn each_row(alloc: Global, before: Rows, values: &[Value]) -> Result<Rows, RowsFault>
+    ensures { Gives result (words.rows_behind before
         (all_of (words.row_in (length before.costs)) (map view values.now))) }
 {
     let columns = before.column_count();
@@ -69,20 +80,20 @@ fn each_row(alloc: Global, before: Rows, values: &[Value]) -> Result<Rows, Refus
 }
 
 #[tactic(auto, unfolding(crate::specs::RowsFile::row_in))]
-fn row_of(alloc: Global, columns: usize, value: &Value) -> Result<FileRow, Refusal>
+fn row_of(alloc: Global, columns: usize, value: &Value) -> Result<FileRow, RowsFault>
     ensures row { Gives result (words.row_in columns (view value.now)) }
     ensures terms { IfOk result (λ row. AreTerms columns row.terms) }
     ensures right { IfOk result (λ row. pos 0 ≤ℤ row.right) }
 {
-    let terms = list_at(value, "terms").ok_or(Refusal::Refused)?;
+    let terms = list_at(value, "terms").ok_or(NO_ROWS)?;
     let terms = terms_of(alloc, columns, terms)?;
-    let right = right_at(value).ok_or(Refusal::Refused)?;
+    let right = right_at(value).ok_or(NO_ROWS)?;
     Ok(FileRow { terms, right })
 }
 
 /// The terms that the values are, in order of columns.
 #[tactic(auto, unfolding(crate::specs::RowsFile::terms_of))]
-fn terms_of(alloc: Global, columns: usize, values: &[Value]) -> Result<Terms, Refusal>
+fn terms_of(alloc: Global, columns: usize, values: &[Value]) -> Result<Terms, RowsFault>
     ensures answer { Gives result (words.terms_of columns (map view values.now)) }
     ensures terms { IfOk result (AreTerms columns) }
 {
@@ -90,19 +101,19 @@ fn terms_of(alloc: Global, columns: usize, values: &[Value]) -> Result<Terms, Re
     if columns_rise(terms.as_slice()) {
         Ok(terms)
     } else {
-        Err(Refusal::Refused)
+        Err(NO_ROWS)
     }
 }
 
-fn each_term(alloc: Global, columns: usize, values: &[Value]) -> Result<Terms, Refusal>
-    ensures answer { Gives result (all_of (words.term_in columns) (map view values.now)) }
+fn each_term(alloc: Global, columns: usize, values: &[Value]) -> Result<Terms, RowsFault>
+    ensures answer { Gives result (all_of (words.term_at columns) (map view values.now)) }
     ensures each { IfOk result (All (IsTerm columns)) }
 {
     let mut terms = Terms::new(alloc);
     for value in values {
         match term_in(columns, value) {
             Some(term) => terms.push(term)?,
-            None => return Err(Refusal::Refused),
+            None => return Err(NO_ROWS),
         }
     }
     Ok(terms)

@@ -5,7 +5,7 @@ use Rattle.std.proofs.lemmas.Bool.{ltb-true}
 use Rattle.json_fields.proofs.Numerals.{both}
 use Rattle.whole_rows.specs.Terms.{IsTerm, AreTerms}
 use Rattle.whole_rows.specs.declared.Term.{Term}
-use Rattle.solve_rows.specs.RowsFile.{columns_rise}
+use Rattle.bench_solve.specs.RowsFile.{columns_rise}
 
 rising : (terms : List Term) → columns_rise terms ≡ true → (k : ℕ) (d : Term) → k + 1 < length terms → (get_or terms k d).column < (get_or terms (k + 1) d).column
 rising [] is k d within = absurd (omega arith)
