@@ -95,7 +95,6 @@ fn greatest_costs_where_extras_overlap(rt: HostRuntime) -> Result<(), Fail> {
     let timing = timing.ok().ok_or("a timing")?;
     assert_eq!(rt; timing.insn(Class::Branch, true, 0x104), 14);
     assert_eq!(rt; timing.insn(Class::Branch, false, 0x10c), 8);
-    assert_eq!(rt; timing.service(Service::Schedule, 0x100), 12);
     Ok(())
 }
 
