@@ -3,6 +3,7 @@ pub mod Sums
 pub mod Duality
 pub mod Verdicts
 pub mod Combinations
+pub mod FirstPlaces
 pub mod Divisors
 pub mod Columns
 pub mod Dense

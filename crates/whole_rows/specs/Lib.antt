@@ -4,3 +4,4 @@ pub mod Rows
 pub mod Duals
 pub mod Greatest
 pub mod Columns
+pub mod Working

@@ -4,6 +4,7 @@
 
 mod column;
 mod duals;
+mod lanes;
 mod row;
 mod rows;
 

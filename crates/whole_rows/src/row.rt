@@ -1,7 +1,9 @@
-ghost use Rattle.std.specs.Prelude.{◌≡◌, ◌<◌, ◌≤◌, ◌^◌, ◌-ℤ◌, ◌*ℤ◌, length, Ok, unsigned_abs, pos, int_div, IsTrue, ◌↔◌, All, SomeIff, IfOk, slice_get, slice_index, set, Some};
+ghost use Rattle.std.specs.Prelude.{◌≡◌, ◌<◌, ◌≤◌, ◌^◌, ◌-ℤ◌, ◌*ℤ◌, length, Ok, unsigned_abs, pos, int_div, IsTrue, ◌↔◌, All, SomeIff, IfOk, slice_get, slice_index, set, Some, take};
 ghost use Rattle.std.specs.Int.{IsGcd};
 ghost use Rattle.whole_rows.specs.Row.{IsInRange, IsNarrow, AreInRange, combined_entry, IsCombinedEntry, combination, IsCombination, gcd_of, nat_gcd, divisor_of, divided_by, primitive_of, first_negative_of};
+ghost use Rattle.whole_rows.specs.Working.Wide.{is_wide, wide_of, wide_count};
 
+use crate::lanes::{self, combine_lanes};
 use listed::Memory;
 use std::alloc::{AllocError, AllocFailed, Global};
 use std::marker::Model;
@@ -40,20 +42,27 @@ impl From<AllocFailed<i128>> for RowFault {
 }
 
 /// A row of whole numbers, each between -(2^127 - 1) and 2^127 - 1. Contracts see the list of them.
+///
+/// A row without wide entries is narrow: what is done with it is done in 64 bits, in lanes. Both
+/// forms keep the same entries, so a row changes its form in place.
 #[derive(Debug, Drop)]
 pub struct Row {
     entries: Vec<i128>,
+    /// How many entries are wide.
+    wide: usize,
 }
 
 impl Model for Row {
-    ghost use Rattle.std.specs.Prelude.{List, ℤ};
+    ghost use Rattle.std.specs.Prelude.{◌≡◌, List, ℤ};
     ghost use Rattle.whole_rows.specs.Row.{AreInRange};
+    ghost use Rattle.whole_rows.specs.Working.Wide.{wide_count};
 
     ghost Value = { List ℤ };
 
     ghost view = { λ row. row.entries.items };
 
-    ghost invariant = { λ row. AreInRange row.entries.items };
+    ghost invariant = { λ row. AreInRange row.entries.items
+        × (row.wide ≡ wide_count row.entries.items) };
 }
 
 impl Row {
@@ -63,7 +72,7 @@ impl Row {
         ensures { IfOk result (λ row. row ≡ entries.now) }
     {
         let entries = Vec::from_slice(alloc, entries)?;
-        Ok(Row { entries })
+        Ok(Row::from_vec(entries))
     }
 
     /// The row of the vector's elements; takes no memory.
@@ -71,7 +80,8 @@ impl Row {
         requires { AreInRange entries.items }
         ensures { result ≡ entries.items }
     {
-        Row { entries }
+        let wide = wide_count(entries.as_slice());
+        Row { entries, wide }
     }
 
     /// The same row once more.
@@ -79,7 +89,10 @@ impl Row {
         ensures { IfOk result (λ row. row ≡ self.now) }
     {
         let entries = Vec::from_slice(alloc, self.entries.as_slice())?;
-        Ok(Row { entries })
+        Ok(Row {
+            entries,
+            wide: self.wide,
+        })
     }
 
     pub fn len(&self) -> usize
@@ -101,7 +114,7 @@ impl Row {
     pub fn is_narrow(&self) -> bool
         ensures { IsTrue result ↔ All IsNarrow self.now }
     {
-        are_narrow(self.entries.as_slice())
+        self.wide == 0
     }
 
     /// A law: every entry of a row is in range. Does nothing.
@@ -117,24 +130,39 @@ impl Row {
         requires in_range { IsInRange entry }
         ensures { self.new ≡ set self.old i entry }
     {
+        self.wide -= wide_of(self.entries[i]);
+        self.wide += wide_of(entry);
         self.entries[i] = entry;
     }
 }
 
-/// Whether each entry is below 2^31 in size.
-fn are_narrow(entries: &[i128]) -> bool
-    ensures { IsTrue result ↔ All IsNarrow entries.now }
+/// Whether a number isn't below 2^31 in size.
+fn is_wide(number: i128) -> bool
+    ensures { result ≡ is_wide number }
 {
-    for entry in entries {
-        if *entry <= -0x8000_0000 || *entry >= 0x8000_0000 {
-            return false;
-        }
+    number <= -0x8000_0000 || number >= 0x8000_0000
+}
+
+/// 1 for a wide number, 0 for any other.
+fn wide_of(number: i128) -> usize
+    ensures { result ≡ wide_of number }
+{
+    usize::from(is_wide(number))
+}
+
+/// How many numbers are wide.
+fn wide_count(numbers: &[i128]) -> usize
+    ensures { result ≡ wide_count numbers.now }
+{
+    let mut count = 0;
+    for number in numbers {
+        count += wide_of(*number);
     }
-    true
+    count
 }
 
 /// Whether a number fits 64 bits with its sign, so that two such numbers have a product in range.
-fn is_narrow(number: i128) -> bool
+fn fits(number: i128) -> bool
     ensures { IsTrue result ↔ (unsigned_abs number < 2 ^ 63) }
 {
     -0x8000_0000_0000_0000 < number && number < 0x8000_0000_0000_0000
@@ -176,7 +204,7 @@ pub fn combined_entry(p: i128, x: i128, a: i128, y: i128) -> Result<i128, RowFau
     ensures value { IsCombinedEntry (combined_entry p x a y) result }
     ensures in_range { IfOk result (λ entry. IsInRange entry) }
 {
-    if is_narrow(p) && is_narrow(x) && is_narrow(a) && is_narrow(y) {
+    if fits(p) && fits(x) && fits(a) && fits(y) {
         return Ok(narrow_entry(p, x, a, y));
     }
     wide_entry(p, x, a, y)
@@ -215,8 +243,19 @@ pub fn combine(alloc: Global, row: &Row, p: i128, pivot_row: &Row, a: i128) -> R
     requires { length row.now ≡ length pivot_row.now }
     ensures { IsCombination (combination row.now p pivot_row.now a) result }
 {
-    combined_slices(
-        alloc,
+    if row.is_narrow() && pivot_row.is_narrow() && !is_wide(p) && !is_wide(a) {
+        return combined_narrow(
+            alloc,
+            row.entries.as_slice(),
+            p as i64,
+            pivot_row.entries.as_slice(),
+            a as i64,
+        );
+    }
+    let entries = Vec::with_capacity(alloc, row.len())?;
+    combined_from(
+        entries,
+        0,
         row.entries.as_slice(),
         p,
         pivot_row.entries.as_slice(),
@@ -224,18 +263,45 @@ pub fn combine(alloc: Global, row: &Row, p: i128, pivot_row: &Row, a: i128) -> R
     )
 }
 
-fn combined_slices(
+/// The combination of numbers below 2^31 in size: in lanes, and one after another behind the last
+/// whole group of lanes.
+fn combined_narrow(
     alloc: Global,
+    row: &[i128],
+    p: i64,
+    pivot_row: &[i128],
+    a: i64,
+) -> Result<Row, RowFault>
+    requires same { length row.now ≡ length pivot_row.now }
+    requires p { IsNarrow p }
+    requires a { IsNarrow a }
+    requires row { All IsNarrow row.now }
+    requires pivot_row { All IsNarrow pivot_row.now }
+    ensures { IsCombination (combination row.now p pivot_row.now a) result }
+{
+    let mut entries = Vec::with_capacity(alloc, row.len())?;
+    match combine_lanes(&mut entries, row, p, pivot_row, a) {
+        Ok(at) => combined_from(entries, at, row, i128::from(p), pivot_row, i128::from(a)),
+        Err(_) => Err(RowFault::Memory),
+    }
+}
+
+/// The combination, whose entries before a place are given.
+fn combined_from(
+    before: Vec<i128>,
+    at: usize,
     row: &[i128],
     p: i128,
     pivot_row: &[i128],
     a: i128,
 ) -> Result<Row, RowFault>
-    requires { length row.now ≡ length pivot_row.now }
+    requires same { length row.now ≡ length pivot_row.now }
+    requires within { at ≤ length row.now }
+    requires before { combination (take at row.now) p (take at pivot_row.now) a ≡ Ok before.items }
     ensures { IsCombination (combination row.now p pivot_row.now a) result }
 {
-    let mut entries = Vec::with_capacity(alloc, row.len())?;
-    for i in 0..row.len() {
+    let mut entries = before;
+    for i in at..row.len() {
         match combined_entry(p, row[i], a, pivot_row[i]) {
             Ok(entry) => entries.push(entry)?,
             Err(fault) => return Err(fault),
@@ -306,6 +372,7 @@ pub fn primitive(row: &mut Row)
     let divisor = divisor(row.entries.as_slice());
     if divisor > 1 {
         divide(&mut row.entries, divisor);
+        row.wide = wide_count(row.entries.as_slice());
     }
 }
 
@@ -343,5 +410,5 @@ fn quotient(number: i128, divisor: u128) -> i128
 pub fn first_negative(row: &Row) -> Option<usize>
     ensures { result ≡ first_negative_of row.now }
 {
-    row.entries.iter().position(|entry| *entry < 0)
+    lanes::first_negative(row.entries.as_slice())
 }

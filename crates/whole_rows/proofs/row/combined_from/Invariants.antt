@@ -1,7 +1,7 @@
 use Rattle.std.proofs.Common.{◌≡◌, drop}
 use Rattle.whole_rows.specs.Row.{combination, AreInRange}
 use Rattle.whole_rows.proofs.Combinations.{append_entries}
-use Rattle.whole_rows.proofs.row.combined_slices.Given as goal
+use Rattle.whole_rows.proofs.row.combined_from.Given as goal
 
 abbrev pub invariant-loop-i : goal.invariant-loop-i
 invariant-loop-i l =
