@@ -6,10 +6,10 @@
 PROGRAM is the built `bench_solve`. Without files, the lists in bench/rows, these lists side by side,
 and generated ones are taken: chains, flows, long code, states times nodes, loops with bounds, some of
 them with 1,500 rows and more, and one with a ray. Each list is solved by each program in turn, in the
-same run; the peers get it in LP format. Printed are the milliseconds of each (for `solve` the call
-alone, for a peer its whole run), the ratios peer / solve of these and of the processor time of whole
-runs, which tells more on a busy machine, and whether the values agree. A peer that isn't installed is
-skipped, and one that takes a minute has no answer.
+same run; the peers get it in LP format. Printed are milliseconds of processor time, for `solve` of a
+call alone (the mean of the calls that fill 0.2 s), for a peer of its whole run, the ratio peer / solve,
+and whether the values agree. A peer that isn't installed is skipped, and one that takes a minute has no
+answer.
 """
 import json
 import os
@@ -174,48 +174,59 @@ def as_lp(data):
     return "\n".join(lines + ["End", ""])
 
 
+def processor_time():
+    """Seconds of the processor that the programs run so far took, for themselves and in the system."""
+    usage = resource.getrusage(resource.RUSAGE_CHILDREN)
+    return usage.ru_utime + usage.ru_stime
+
+
 def timed(command):
     """Milliseconds by the clock, milliseconds of the processor, and what was written: none after a minute."""
-    start, used = time.perf_counter(), resource.getrusage(resource.RUSAGE_CHILDREN).ru_utime
+    start, used = time.perf_counter(), processor_time()
     try:
         out = subprocess.run(command, capture_output=True, text=True, timeout=60).stdout
     except subprocess.TimeoutExpired:
         out = ""
-    end, spent = time.perf_counter(), resource.getrusage(resource.RUSAGE_CHILDREN).ru_utime
+    end, spent = time.perf_counter(), processor_time()
     return 1000 * (end - start), 1000 * (spent - used), out
 
 
 def solved(program, path):
-    _, cpu, out = timed([program, path])
+    """What `solve` answers, and the processor time of a call: by the clock, times the share of the run
+    in which the program had a processor."""
+    ms, cpu, out = timed([program, path])
     fields = out.split()
+    if not fields or not fields[-1].isdigit():
+        return None
+    call = int(fields[-1]) / 1e6 * min(1.0, cpu / ms)
     if "no bound" in out:
-        return {"pivots": 0, "bound": "none", "ms": int(fields[-1]) / 1000, "cpu": cpu}
+        return {"pivots": 0, "bound": "none", "ms": call}
     if len(fields) != 5:
         return None
-    return {"pivots": int(fields[1]), "bound": int(fields[3]), "ms": int(fields[4]) / 1000, "cpu": cpu}
+    return {"pivots": int(fields[1]), "bound": int(fields[3]), "ms": call}
 
 
 def by_glpsol(lp):
-    ms, cpu, out = timed(["glpsol", "--exact", "--lp", lp, "--max"])
+    _, cpu, out = timed(["glpsol", "--exact", "--lp", lp, "--max"])
     if "UNBOUNDED" in out.upper():
-        return ms, cpu, "none"
+        return cpu, "none"
     values = re.findall(r"objval =\s+(\S+)", out)
-    return ms, cpu, int(float(values[-1]) + 1e-6) if values else None
+    return cpu, int(float(values[-1]) + 1e-6) if values else None
 
 
 def by_esolver(lp, folder):
     solution = os.path.join(folder, "solution")
-    ms, cpu, _ = timed(["esolver", "-O", solution, "-L", lp])
+    _, cpu, _ = timed(["esolver", "-O", solution, "-L", lp])
     for name in (solution, solution + ".sol"):
         if os.path.exists(name):
             with open(name) as text:
                 told = text.read()
             os.remove(name)
             if "UNBOUNDED" in told.upper():
-                return ms, cpu, "none"
+                return cpu, "none"
             value = re.search(r"[Vv]alue\s*=\s*(\S+)", told)
-            return ms, cpu, Fraction(value.group(1)).__floor__() if value else None
-    return ms, cpu, None
+            return cpu, Fraction(value.group(1)).__floor__() if value else None
+    return cpu, None
 
 
 def main():
@@ -250,11 +261,11 @@ def main():
             if mine is None:
                 print(f"{name}: no optimum")
                 continue
-            told = [f"{name}: {len(data['rows'])} rows, {len(data['costs'])} columns, {mine['pivots']} pivots, bound {mine['bound']}, {mine['ms']:.1f} ms"]
+            told = [f"{name}: {len(data['rows'])} rows, {len(data['costs'])} columns, {mine['pivots']} pivots, bound {mine['bound']}, {mine['ms']:.3f} ms"]
             for peer in peers:
-                ms, cpu, bound = by_glpsol(lp) if peer == "glpsol" else by_esolver(lp, folder)
-                agree = "agrees" if bound == mine["bound"] else f"DISAGREES: {bound}"
-                told.append(f"{peer} {ms:.1f} ms, ratio {ms / max(mine['ms'], 0.001):.1f}, of processor time {cpu / max(mine['cpu'], 0.1):.1f}, {agree}")
+                cpu, bound = by_glpsol(lp) if peer == "glpsol" else by_esolver(lp, folder)
+                agree = "no answer" if bound is None else "agrees" if bound == mine["bound"] else f"DISAGREES: {bound}"
+                told.append(f"{peer} {cpu:.1f} ms, ratio {cpu / mine['ms']:.1f}, {agree}")
             if "pivots" in data and data["pivots"] != mine["pivots"]:
                 told.append(f"DISAGREES: {data['pivots']} pivots are known")
             print("; ".join(told))

@@ -7,6 +7,7 @@ use Rattle.serde_json.specs.View.{items_of}
 use Rattle.listed.specs.Lists.{all_of}
 use Rattle.listed.specs.Steps.{◌>>=◌}
 use Rattle.json_fields.specs.Lists.{list_in}
+use Rattle.json_fields.specs.Objects.{list_at}
 use Rattle.whole_rows.specs.Row.{is_zero}
 use Rattle.whole_rows.specs.Rows.{RowsData, with_row}
 use Rattle.whole_rows.specs.declared.Term.{Term}
@@ -31,10 +32,6 @@ right_at d = option_and_then (λ z. if int_lt z (pos 0) then None else Some z) (
 -- a whole number below the number of columns
 abbrev pub column_in : ℕ → Data → Option ℕ
 column_in columns d = option_and_then (λ n. if nat_lt n columns then Some n else None) (option_and_then as_u64 (as_number d))
-
--- the list under a key
-abbrev pub list_at : List ℕ → Data → Option (List Data)
-list_at key d = option_and_then list_in (get key d)
 
 -- ---- rows
 

@@ -8,7 +8,7 @@ ghost use Rattle.whole_rows.specs.Row.{IsInRange};
 ghost use Rattle.whole_rows.specs.Terms.{IsTerm, AreTerms};
 ghost use Rattle.bench_solve.specs.RowsFile as words;
 
-use json_fields::list_in;
+use json_fields::{list_at, list_in};
 use listed::{Fault, ListedNumbers};
 use serde_json::Value;
 use std::alloc::Global;
@@ -186,10 +186,4 @@ fn right_at(value: &Value) -> Option<i64>
 {
     let right = value.get("right")?.as_i64()?;
     if right < 0 { None } else { Some(right) }
-}
-
-fn list_at<'v>(value: &'v Value, key: &str) -> Option<&'v [Value]>
-    ensures { option_map (λ vs. map view vs.now) result ≡ words.list_at key.now (view value.now) }
-{
-    list_in(value.get(key)?)
 }

@@ -131,6 +131,10 @@ module _ (d : RowsData) (rows_fit : All (λ row. length row ≡ length d.costs) 
   pub each_first : (P : Line → Type 0) → ((i : ℕ) → i < length d.rows → P (first_line d i (get_or d.rows i []) (get_or d.rights i (pos 0)))) → (line : Line) → In line (first_table d).lines → P line
   each_first P h line m = (let f = first_is line m in subst P (sym f.2) (h f.0 f.1))
 
+  -- a line's own entry is 1
+  pub first_own : (line : Line) → In line (first_table d).lines → entry line.entries line.basic ≡ pos 1
+  first_own = each_first (λ l. entry l.entries l.basic ≡ pos 1) (λ i h. line_slack i i h h ∙ unit_row_here (length d.rows) i h)
+
   first_others : (line other : Line) → In line (first_table d).lines → In other (first_table d).lines → line.basic ≢ other.basic → entry other.entries line.basic ≡ pos 0
   first_others line other m n =
       each_first (λ l. l.basic ≢ other.basic → entry other.entries l.basic ≡ pos 0)

@@ -25,5 +25,6 @@ pub mod Reading
 pub mod Multiples
 pub mod Turning
 pub mod Scaled
+pub mod SharedDivisors
 pub mod Subtracting
 pub mod Reducing

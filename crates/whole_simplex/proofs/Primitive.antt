@@ -27,7 +27,7 @@ multiples_of_divisor : (g h : ℕ) (row : List ℤ) → g ∣ h → AreMultiples
 multiples_of_divisor g h [] d m = tt
 multiples_of_divisor g h (x ∷ row) d m = (dvd_trans g d m.0, multiples_of_divisor g h row d m.1)
 
-divisor_divides : (row : List ℤ) → AreMultiples (divisor_of row) row
+pub divisor_divides : (row : List ℤ) → AreMultiples (divisor_of row) row
 divisor_divides [] = tt
 divisor_divides (x ∷ row) =
     let g = nat_gcd-is (unsigned_abs x) (divisor_of row) in
@@ -72,7 +72,7 @@ divides_entry row k d h = entry_of_multiples (divisor_of row) row k d (divisor_d
     entry_of_multiples g (x ∷ row) zero d m h = m.0
     entry_of_multiples g (x ∷ row) (suc k) d m h = entry_of_multiples g row k d m.1 (omega arith)
 
-one_from : (g : ℕ) → g ∣ 1 → g ≡ 1
+pub one_from : (g : ℕ) → g ∣ 1 → g ≡ 1
 one_from zero d = (let none : ◌≡◌ {A = ℕ} 1 0 = eq-zero_of_zero-dvd d in absurd (omega (arith, none)))
 one_from (suc g) d = (let above : 0 < 1 = omega arith in omega (arith, le_of_dvd above d))
 

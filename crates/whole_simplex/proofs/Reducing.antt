@@ -1,12 +1,12 @@
 -- The greatest common divisor of a row, sought from a multiple of it on, and what the row divided by it is within.
-use Rattle.std.proofs.Common.{◌≡◌, ℕ, zero, suc, ◌+◌, ◌-◌, ◌*◌, ◌/◌, ◌<◌, ◌≤◌, List, [], ◌∷◌, map, length, get_or, take, drop, max, ℤ, pos, negsuc, neg_ℤ, All, refl, sym, ap, ◌∙◌, subst, arith}
+use Rattle.std.proofs.Common.{◌≡◌, ℕ, zero, suc, ◌+◌, ◌-◌, ◌*◌, ◌/◌, ◌<◌, ◌≤◌, List, [], ◌∷◌, length, get_or, take, drop, ℤ, pos, negsuc, neg_ℤ, refl, sym, ap, ◌∙◌, subst, arith}
 use Rattle.std.specs.Prelude.{unsigned_abs, int_div}
 use Rattle.std.specs.Int.{◌∣◌, IsGcd}
 use Rattle.std.proofs.Math.Nat.{div-mul-le_self, mul-div_right, mul_comm, one-dvd}
 use Rattle.std.proofs.lemmas.Nat.{le-div}
 use Rattle.std.proofs.lemmas.Nat.Gcd.{dvd_antisymm, dvd_refl, dvd-zero, dvd_trans, le_of_dvd}
 use Rattle.std.proofs.lemmas.List.{drop_more, length-drop}
-use Rattle.std.proofs.lemmas.List.Elements.{All-nil, All-cons, All-head, All-tail, All-weaker, All-more, All-map}
+use Rattle.std.proofs.lemmas.List.Elements.{All-cons, All-head, All-tail, All-weaker, All-more, All-map}
 use borrow.Author.Differences.{neg_is, abs_is}
 use Rattle.whole_rows.specs.Row.{divided_by, divisor_of, nat_gcd}
 use Rattle.whole_rows.proofs.Divisors.{DividesAll, divided_by_is, divisor_of_is, nat_gcd_is}

@@ -1,19 +1,18 @@
 -- A row times a number above 0 has the same primitive row, so both factors of a combination may be divided by what they share.
-use Rattle.std.proofs.Common.{◌≡◌, ◌≢◌, ℕ, zero, suc, ◌+◌, ◌-◌, ◌*◌, ◌/◌, ◌<◌, ◌≤◌, Bool, true, false, cond, List, [], ◌∷◌, ◌++◌, map, length, get_or, take, drop, ℤ, pos, negsuc, ◌-ℤ◌, ◌*ℤ◌, ◌<ℤ◌, All, refl, sym, ap, ◌∙◌, subst, arith}
+use Rattle.std.proofs.Common.{◌≡◌, ◌≢◌, ℕ, zero, suc, ◌+◌, ◌-◌, ◌*◌, ◌/◌, ◌<◌, ◌≤◌, Bool, true, false, cond, List, [], ◌∷◌, ◌++◌, map, length, get_or, take, drop, ℤ, pos, negsuc, ◌-ℤ◌, ◌*ℤ◌, ◌<ℤ◌, refl, sym, ap, ◌∙◌, subst, arith}
 use Rattle.std.specs.Prelude.{unsigned_abs, int_div}
 use Rattle.std.specs.Int.{◌∣◌}
 use Rattle.std.proofs.Math.Nat.{mul-dvd-mul_left, dvd_of_mul-dvd-mul_left, dvd-mul_right, eq-zero_of_zero-dvd}
 use Rattle.std.proofs.Math.IntN.{*ℤ-zero}
 use Rattle.std.proofs.lemmas.Int.{ints, unsigned_abs-mul}
 use Rattle.std.proofs.lemmas.Nat.Gcd.{dvd_trans, le_of_dvd}
-use Rattle.std.proofs.lemmas.Bool.Decides.{nat_tests}
 use Rattle.std.proofs.lemmas.List.{length-map, length-take, get_or-drop, get_or-append_right}
 use Rattle.std.proofs.lemmas.List.Elements.{All-cons, All-head, All-tail, All-weaker, All-map}
 use Rattle.whole_rows.specs.Row.{divisor_of, divided_by, is_zero, nat_gcd, primitive_of}
 use Rattle.whole_rows.proofs.Divisors.{DividesAll, IsDivisorOf, divided_by_is, divisor_of_is, nat_gcd_is, same-divisor_of}
 use Rattle.whole_simplex.specs.Tables.{entry, combined, eliminated}
 use Rattle.whole_simplex.proofs.Eliminating.{not_zero}
-use Rattle.whole_simplex.proofs.Integers.{mul_assoc, mul_sub, mul_positive, same_of_mul}
+use Rattle.whole_simplex.proofs.Integers.{mul_assoc, mul_sub, same_of_mul}
 use Rattle.whole_simplex.proofs.Primitive.{divided_entry, one_times, whole_quotient}
 
 -- ---- the divisor of a row times a number
@@ -43,7 +42,7 @@ scaled_once n row =
     All-map (λ y. suc n ∣ unsigned_abs y) (λ x. pos (suc n) *ℤ x) row
     (λ k d l. subst (λ (s : ℕ). suc n ∣ s) (sym (scaled_size n (get_or row k d))) (dvd-mul_right (suc n) (unsigned_abs (get_or row k d))))
 
-divisor_scaled : (n : ℕ) (row : List ℤ) → IsDivisorOf (map (λ x. pos (suc n) *ℤ x) row) (suc n * divisor_of row)
+pub divisor_scaled : (n : ℕ) (row : List ℤ) → IsDivisorOf (map (λ x. pos (suc n) *ℤ x) row) (suc n * divisor_of row)
 divisor_scaled n row =
     let is = divisor_of_is row in
     let all = divisor_of_is (map (λ x. pos (suc n) *ℤ x) row) in

@@ -1,10 +1,10 @@
 -- A combination with 1 times a row, formed at the places alone where the pivot row isn't 0.
 use Rattle.std.proofs.Common.{◌≡◌, ℕ, zero, suc, ◌+◌, ◌-◌, ◌*◌, ◌^◌, ◌<◌, ◌≤◌, Bool, true, false, cond, List, [], ◌∷◌, ◌++◌, map, length, get_or, take, drop, set, All, ℤ, pos, ◌-ℤ◌, ◌*ℤ◌, refl, sym, ap, ◌∙◌, subst, append_assoc, get_or-set_same, get_or-set_other, arith}
-use Rattle.std.specs.Prelude.{unsigned_abs, Option, Some, None}
+use Rattle.std.specs.Prelude.{unsigned_abs, Option, None}
 use Rattle.std.proofs.Math.IntN.{*ℤ-zero}
 use Rattle.std.proofs.Math.Nat.{mul-le-mul_left}
 use Rattle.std.proofs.lemmas.Int.{ints, unsigned_abs-mul}
-use Rattle.std.proofs.lemmas.List.{get_or_at, set_at, length-append, length-set, drop_more, drop_all, take_more}
+use Rattle.std.proofs.lemmas.List.{get_or_at, set_at, length-append, drop_more, drop_all, take_more}
 use Rattle.std.proofs.lemmas.List.Elements.{All-nil, All-cons, All-head, All-tail, All-weaker, All-get_or}
 use Rattle.whole_rows.specs.Row.{IsInRange, is_zero}
 use Rattle.whole_rows.proofs.Combinations.{is_in_range-yes}

@@ -5,3 +5,4 @@ pub mod Faults
 pub mod Places
 pub mod Sizes
 pub mod Narrow
+pub mod Divisors

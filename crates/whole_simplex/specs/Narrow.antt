@@ -1,10 +1,15 @@
 -- What an elimination within 64 bits makes of a line.
 use Rattle.std.specs.Prelude.{◌≡◌, ℕ, ◌^◌, ◌<◌, Bool, true, false, List, ℤ, Option, Some, None}
+use Rattle.whole_rows.specs.Rows.{RowsData, row_at, right_at}
 use Rattle.whole_simplex.specs.Outcome.{AreNarrow, elimination_pairs}
 use Rattle.whole_simplex.specs.Places.{places_of}
 use Rattle.whole_simplex.specs.Sizes.{AreWithin}
-use Rattle.whole_simplex.specs.Tables.{eliminated}
+use Rattle.whole_simplex.specs.Tables.{eliminated, first_line}
 use Rattle.whole_simplex.specs.declared.narrow.NarrowPivot.{NarrowPivot}
+
+-- the entries of a row's line in table 0
+abbrev pub first_entries : RowsData → ℕ → List ℤ
+first_entries d row = (first_line d row (row_at d row) (right_at d row)).entries
 
 pub record IsNarrowPivot (pivot : NarrowPivot) : Type 0 where
   pub places_are : pivot.places.items ≡ places_of pivot.entries.items

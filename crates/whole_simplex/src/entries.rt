@@ -55,6 +55,22 @@ impl Entries {
         }
     }
 
+    /// The entries of a vector, where each is below 2^63 in size.
+    pub fn from_narrow(narrow: Vec<i64>) -> Option<Entries>
+        ensures { ForSome result (λ entries. entries ≡ narrow.items) }
+    {
+        let bound = largest(narrow.as_slice());
+        if bound < 0x8000_0000_0000_0000 {
+            Some(Entries {
+                narrow,
+                bound,
+                wide: None,
+            })
+        } else {
+            None
+        }
+    }
+
     /// The row of the entries.
     pub fn widened(&self, alloc: Global) -> Result<Row, Memory>
         ensures { IfOk result (λ row. row ≡ self.now) }
@@ -133,6 +149,17 @@ fn is_narrow(number: i128) -> bool
     ensures { IsTrue result ↔ (unsigned_abs number < 2 ^ 63) }
 {
     -0x8000_0000_0000_0000 < number && number < 0x8000_0000_0000_0000
+}
+
+/// The number in 64 bits, where it is below 2^63 in size.
+pub fn narrow_entry(number: i128) -> Option<i64>
+    ensures { ForSome result (λ narrow. narrow ≡ number) }
+{
+    if is_narrow(number) {
+        Some(number as i64)
+    } else {
+        None
+    }
 }
 
 /// The entries of a row in 64 bits, where each is below 2^63 in size.

@@ -6,6 +6,7 @@
 mod divisor;
 mod entries;
 mod exact;
+mod laws;
 mod line;
 mod narrow;
 mod optimal;
@@ -18,6 +19,7 @@ mod table;
 mod tests;
 
 pub use entries::Entries;
+pub use laws::divisors_are_shared;
 pub use line::Line;
 pub use solving::solve;
 use thiserror::Error;

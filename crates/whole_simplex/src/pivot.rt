@@ -76,8 +76,36 @@ fn eliminate_narrow(
     }
 }
 
-/// Makes the row 0 at the place by means of the pivot row, and primitive. A row that is 0 there
-/// already isn't touched. The place `own` is that of the row's basic column.
+/// Makes the row, which isn't 0 at the place, 0 there by means of the pivot row, and primitive. The
+/// place `own` is that of the row's basic column.
+fn eliminate_entry(
+    alloc: Global,
+    row: &mut Entries,
+    own: usize,
+    pivot: &Entries,
+    narrow: &Option<NarrowPivot>,
+    place: usize,
+) -> Result<(), RowFault>
+    requires same { length row.old ≡ length pivot.now }
+    requires narrow { ForSome narrow.now (IsPivotOf pivot.now) }
+    requires place { place < length pivot.now }
+    requires entry { entry row.old place ≢ pos 0 }
+    ensures { Eliminates place pivot.now row.old row.new result }
+{
+    if eliminate_narrow(row, own, pivot, narrow, place) {
+        return Ok(());
+    }
+    match eliminated_entries(alloc, row, pivot, place) {
+        Ok(new) => {
+            *row = new;
+            Ok(())
+        }
+        Err(fault) => Err(fault),
+    }
+}
+
+/// The same of any row. One that is 0 at the place already isn't touched, as most aren't: the test
+/// stands apart, so that it goes into the loop over the lines.
 fn eliminate(
     alloc: Global,
     row: &mut Entries,
@@ -94,16 +122,7 @@ fn eliminate(
     if entry(row, place) == 0 {
         return Ok(());
     }
-    if eliminate_narrow(row, own, pivot, narrow, place) {
-        return Ok(());
-    }
-    match eliminated_entries(alloc, row, pivot, place) {
-        Ok(new) => {
-            *row = new;
-            Ok(())
-        }
-        Err(fault) => Err(fault),
-    }
+    eliminate_entry(alloc, row, own, pivot, narrow, place)
 }
 
 /// Eliminates the entering place from each of the lines.

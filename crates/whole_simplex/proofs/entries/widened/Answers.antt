@@ -1,9 +1,9 @@
 -- One entry more.
-use Rattle.std.proofs.Common.{◌≡◌, ◌<◌, ◌^◌, ◌++◌, List, [], ◌∷◌, ℤ, pos, get_or, take, sym, ◌∙◌, subst, rules, arith}
+use Rattle.std.proofs.Common.{◌≡◌, ◌++◌, [], ◌∷◌, pos, get_or, sym, subst, rules}
 use Rattle.std.specs.Int.{w64, w128}
 use Rattle.std.proofs.lemmas.Int.{to_z-of_z}
 use Rattle.std.proofs.lemmas.List.Elements.{All-push}
-use mir.Val.{SFits, to_z, of_z}
+use mir.Val.{SFits}
 use Rattle.whole_rows.specs.Row.{IsInRange, AreInRange}
 use Rattle.whole_rows.proofs.Combinations.{fits_from_range}
 use Rattle.whole_simplex.proofs.Subtracting.{read_more}

@@ -1,9 +1,9 @@
 -- All products and sums are below 2^63.
-use Rattle.std.proofs.Common.{◌≡◌, ◌<◌, ◌^◌, ◌*ℤ◌, List, ℤ, pos, length, map, All, sym, ap, ◌∙◌, subst, arith}
+use Rattle.std.proofs.Common.{◌≡◌, ◌<◌, ◌^◌, ◌*ℤ◌, List, ℤ, pos, map, All, sym, ap, ◌∙◌, subst}
 use Rattle.std.specs.Prelude.{unsigned_abs}
 use Rattle.std.specs.Int.{w64}
 use Rattle.std.proofs.lemmas.Int.{to_z-of_z}
-use mir.Val.{SFits, to_z, of_z}
+use mir.Val.{SFits}
 use Rattle.whole_simplex.specs.Sizes.{AreSmall}
 use Rattle.whole_simplex.specs.Tables.{combined}
 use Rattle.whole_simplex.proofs.Scaled.{combined_first}

@@ -1,5 +1,5 @@
 -- The divisor of the entries from the last one on.
-use Rattle.std.proofs.Common.{◌≡◌, ◌<◌, ◌-◌, ◌+◌, ℕ, ℤ, pos, get_or, length, refl, sym, subst, ap, ◌∙◌, rules, arith}
+use Rattle.std.proofs.Common.{◌≡◌, ◌-◌, ℕ, pos, get_or, length, refl, sym, subst, ◌∙◌, rules, arith}
 use Rattle.std.specs.Prelude.{unsigned_abs}
 use Rattle.std.specs.Int.{w64, ◌∣◌, IsGcd}
 use Rattle.std.proofs.lemmas.Int.{to_z-of_z}

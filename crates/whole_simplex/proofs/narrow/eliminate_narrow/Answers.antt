@@ -1,5 +1,5 @@
 -- The combination of the parts has the primitive row of the whole combination.
-use Rattle.std.proofs.Common.{◌≡◌, ◌≢◌, ◌<◌, ◌≤◌, ◌+◌, ◌*◌, ◌^◌, List, ℕ, ℤ, pos, length, get_or, All, refl, sym, ap, ◌∙◌, subst, rules, arith}
+use Rattle.std.proofs.Common.{◌≡◌, ◌≢◌, ◌<◌, ◌≤◌, ◌^◌, List, ℕ, ℤ, pos, length, get_or, refl, sym, ap, ◌∙◌, subst, rules, arith}
 use Rattle.std.specs.Prelude.{unsigned_abs, int_div}
 use Rattle.std.specs.Int.{w64}
 use Rattle.std.proofs.lemmas.Int.{to_z-of_z}
@@ -7,7 +7,7 @@ use Rattle.std.proofs.lemmas.List.{get_or_default}
 use mir.Val.{SFits, to_z, of_z}
 use Rattle.whole_rows.specs.Row.{nat_gcd, primitive_of}
 use Rattle.whole_simplex.specs.Sizes.{AreWithin}
-use Rattle.whole_simplex.specs.Tables.{combined, entry, eliminated}
+use Rattle.whole_simplex.specs.Tables.{entry}
 use Rattle.whole_simplex.proofs.Scaled.{eliminated_shared, shared_above, shared_small}
 use Rattle.whole_simplex.proofs.Subtracting.{combined_within}
 use Rattle.whole_simplex.proofs.narrow.eliminate_narrow.Goals as goal

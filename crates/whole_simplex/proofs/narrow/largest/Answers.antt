@@ -1,5 +1,5 @@
 -- The greatest size so far.
-use Rattle.std.proofs.Common.{◌≡◌, ◌<◌, ◌≤◌, ℕ, ℤ, pos, get_or, take, rules, arith}
+use Rattle.std.proofs.Common.{◌≡◌, pos, get_or, rules, arith}
 use Rattle.std.specs.Prelude.{unsigned_abs}
 use Rattle.std.specs.Int.{w64}
 use Rattle.std.proofs.lemmas.Int.{to_z-of_z}

@@ -1,6 +1,6 @@
 -- A divisor up to 1 divides nothing, and no divisor exceeds the entries.
-use Rattle.std.proofs.Common.{◌≡◌, ◌<◌, ◌≤◌, ◌/◌, sym, subst, List, ℤ, ℕ, arith}
-use Rattle.whole_rows.specs.Row.{divided_by, divisor_of}
+use Rattle.std.proofs.Common.{◌<◌, ◌≤◌, ◌/◌, sym, subst, List, ℤ, arith}
+use Rattle.whole_rows.specs.Row.{divisor_of}
 use Rattle.whole_rows.proofs.Divisors.{divided_by-small}
 use Rattle.whole_simplex.specs.Sizes.{AreWithin}
 use Rattle.whole_simplex.proofs.Reducing.{divided_within, divisor_within}

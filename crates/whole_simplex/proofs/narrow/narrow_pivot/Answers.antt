@@ -1,6 +1,5 @@
 -- The bound is that of the entries.
-use Rattle.std.proofs.Common.{◌≡◌, ◌-◌, ◌<◌, ◌^◌, List, ℤ, ap, ◌∙◌, sym, subst, arith}
-use Rattle.whole_simplex.specs.Narrow.{IsNarrowPivot}
+use Rattle.std.proofs.Common.{◌≡◌, ◌-◌, ◌^◌, List, ℤ, ap, ◌∙◌, sym, subst, arith}
 use Rattle.whole_simplex.specs.Places.{places_of}
 use Rattle.whole_simplex.specs.Sizes.{AreWithin}
 use Rattle.whole_simplex.proofs.Subtracting.{small_is_within}

@@ -5,7 +5,7 @@ use Rattle.std.specs.Int.{w64}
 use Rattle.std.proofs.lemmas.Int.{to_z-of_z, fits_signed_from_abs}
 use Rattle.std.proofs.lemmas.List.{append-nil, get_or_default, take_all, drop_all}
 use Rattle.std.proofs.lemmas.List.Edits.{map_over_more}
-use mir.Val.{SFits, to_z, of_z}
+use mir.Val.{SFits, to_z}
 use Rattle.whole_simplex.proofs.Scaled.{entry_untouched, one_row}
 use Rattle.whole_simplex.proofs.narrow.scale.Goals as goal
 

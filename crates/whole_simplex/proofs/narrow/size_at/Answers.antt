@@ -1,5 +1,5 @@
 -- The divisor of a row divides each entry.
-use Rattle.std.proofs.Common.{◌≡◌, ℕ, ℤ, pos, get_or, sym, subst, rules}
+use Rattle.std.proofs.Common.{◌≡◌, ℕ, pos, get_or, sym, subst, rules}
 use Rattle.std.specs.Prelude.{unsigned_abs}
 use Rattle.std.specs.Int.{w64, ◌∣◌}
 use Rattle.std.proofs.lemmas.Int.{to_z-of_z}

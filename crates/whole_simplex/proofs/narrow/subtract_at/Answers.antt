@@ -1,5 +1,5 @@
 -- The product and the difference fit 64 bits.
-use Rattle.std.proofs.Common.{◌≡◌, ◌-ℤ◌, ◌*ℤ◌, ℤ, pos, get_or, set, refl, rules}
+use Rattle.std.proofs.Common.{◌-ℤ◌, ◌*ℤ◌, ℤ, pos, get_or, rules}
 use Rattle.std.specs.Int.{w64}
 use Rattle.std.proofs.lemmas.Int.{to_z-of_z, fits_signed_from_abs}
 use mir.Val.{SFits}

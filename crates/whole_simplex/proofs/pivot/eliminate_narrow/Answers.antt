@@ -1,5 +1,5 @@
 -- The narrow pivot has the pivot's entries.
-use Rattle.std.proofs.Common.{◌≡◌, List, ℤ, ap, ◌∙◌, sym, length, subst}
+use Rattle.std.proofs.Common.{List, ℤ, ap, ◌∙◌, sym, length, subst}
 use Rattle.whole_simplex.specs.Narrow.{MayEliminate}
 use Rattle.whole_simplex.proofs.pivot.eliminate_narrow.Goals as goal
 

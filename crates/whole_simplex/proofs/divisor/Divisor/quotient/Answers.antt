@@ -1,9 +1,9 @@
 -- The size's quotient with the sign is the number's.
-use Rattle.std.proofs.Common.{◌≡◌, ◌*◌, ◌<◌, ◌≤◌, ◌^◌, ℕ, pos, refl, ap, ◌∙◌, rules, arith}
-use Rattle.std.specs.Prelude.{int_div, unsigned_abs}
+use Rattle.std.proofs.Common.{◌≡◌, refl, ◌∙◌, rules, arith}
+use Rattle.std.specs.Prelude.{unsigned_abs}
 use Rattle.std.specs.Int.{w64}
 use Rattle.std.proofs.lemmas.Int.{to_z-of_z}
-use mir.Val.{SFits, to_z, of_z}
+use mir.Val.{SFits}
 use Rattle.whole_simplex.specs.Sizes.{with_sign}
 use Rattle.whole_simplex.proofs.Reducing.{factor_within, sized_quotient}
 use Rattle.whole_simplex.proofs.divisor.Divisor.quotient.Goals as goal

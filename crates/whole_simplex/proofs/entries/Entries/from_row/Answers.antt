@@ -1,5 +1,5 @@
 -- The bound is that of the entries.
-use Rattle.std.proofs.Common.{◌≡◌, ◌<◌, ◌-◌, ◌^◌, List, ℤ, sym, ◌∙◌, subst, rules, arith}
+use Rattle.std.proofs.Common.{◌-◌, ◌^◌, List, ℤ, sym, ◌∙◌, subst, arith}
 use Rattle.whole_simplex.specs.Sizes.{AreSmall, AreWithin}
 use Rattle.whole_simplex.proofs.Subtracting.{small_is_within}
 use Rattle.whole_simplex.proofs.entries.Entries.from_row.Goals as goal

@@ -1,5 +1,6 @@
 -- The parts in order.
-use Rattle.std.proofs.Common.{◌≡◌, ℕ, ◌+◌, ◌-◌, ◌++◌, ◌∷◌, [], ℤ, pos, List, length, ap, sym, ◌∙◌, subst, arith}
+use Rattle.std.proofs.Common.{◌≡◌, ◌-◌, ◌++◌, ◌∷◌, [], ℤ, pos, List, length, ap, sym, ◌∙◌, subst, arith}
+use Rattle.std.specs.Prelude.{IfOk}
 use Rattle.std.proofs.lemmas.Int.{to_z-of_z}
 use Rattle.std.specs.Int.{w128}
 use mir.Val.{SFits}
@@ -8,7 +9,7 @@ use Rattle.whole_rows.specs.Row.{IsInRange, AreInRange}
 use Rattle.whole_rows.specs.Rows.{row_at, right_at}
 use Rattle.whole_simplex.specs.Tables.{unit_row}
 use Rattle.whole_simplex.proofs.Building.{line_put_together, line_in_range}
-use Rattle.whole_simplex.proofs.table.first_line.Goals as goal
+use Rattle.whole_simplex.proofs.table.wide_entries.Goals as goal
 
 pub push_columns-requires-clause-fits : goal.push_columns-requires-clause-fits
 push_columns-requires-clause-fits c = c.row_count-count.ensures.rows.shape.rows_fit c.args.row [] c.requires.row
@@ -38,5 +39,4 @@ returns c =
     line_put_together (length d.rows) i (c.row_count-count.result - i - 1) (row_at d i) _ _ _ _ _ c.push-3.new.self.items (right_at d i)
     (omega (arith, c.row_count-count.ensures.value, c.requires.row)) first c.in_ok-push_zeros.ensures c.in_ok-push.ensures.items c.in_ok-push_zeros-2.ensures c.in_ok-push-2.ensures.items
     (last ∙ ap (λ x. c.push-2.new.self.items ++ x ∷ []) c.right.ensures.value) in
-    ap (λ (es : List ℤ). record { basic = c.column_count.result + i; entries = es }) (c.in_ok-from_row.ensures ∙ c.from_vec.ensures ∙ whole)
-    ∙ ap (λ (n : ℕ). record { basic = n + i; entries = row_at d i ++ unit_row (length d.rows) i ++ pos 0 ∷ right_at d i ∷ [] }) c.column_count.ensures
+    subst (λ (l : List ℤ). IfOk c.from_row.result (λ entries. entries ≡ l)) (c.from_vec.ensures ∙ whole) c.from_row.ensures
