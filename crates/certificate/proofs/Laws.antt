@@ -1,5 +1,6 @@
 -- A state that is read fits the system, and a certificate that is read is within its limits.
 use Rattle.std.proofs.Common.{◌≡◌, ℕ, zero, suc, ◌^◌, ◌<◌, ◌≤◌, Bool, true, false, cond, List, [], ◌∷◌, length, Option, Some, None, Result, Ok, Err, refl, ap, ◌∙◌, subst, arith, eqb}
+use Rattle.std.proofs.lemmas.Option.{same_Some}
 use Rattle.std.specs.Prelude.{slice_get, bytes_eq, IfOk, IfSome, nat_eq, nat_lt, ok_or, ◌&&◌}
 use Rattle.std.specs.List.{AllByRecursion}
 use Rattle.std.proofs.lemmas.Bool.{ltb-true, eqb-true}
@@ -10,7 +11,7 @@ use Rattle.listed.specs.Steps.Options as options
 use Rattle.listed.proofs.Answered.{IfOk-step, IfOk-each_from, IfOk-each_from_length, IfOk-all_of}
 use Rattle.json_fields.specs.Lists.{list_in}
 use Rattle.json_fields.specs.Numbers.{digits_below}
-use Rattle.json_fields.proofs.Laws.{IfOk-ok_or, IfOk-test, bind_some, passed, not_refused, same_some, whole_in-range, digits_in-lt, digits_below-lt}
+use Rattle.json_fields.proofs.Laws.{IfOk-ok_or, IfOk-test, bind_some, passed, not_refused, whole_in-range, digits_in-lt, digits_below-lt}
 use Rattle.osek_kernel.specs.declared.context.Context.{Context}
 use Rattle.osek_kernel.specs.declared.context.Context.TheVariants.{Task, Isr}
 use Rattle.abstract_sched.specs.declared.rules.StateRules.{StateRules}
@@ -34,7 +35,7 @@ id_below-lt : (count : ℕ) (d : Data) (n : ℕ) → id_below count d ≡ Some n
 id_below-lt count d n is =
     let read = bind_some (number_in d) (λ m. cond (nat_lt m count) (Some m) None) n is in
     let test = passed (nat_lt read.0 count) (Some read.0) n read.2 in
-    let same = same_some read.0 n test.1 in
+    let same = same_Some read.0 n test.1 in
     subst (λ (m : ℕ). (m < count) × IsId m) same (ltb-true read.0 count test.0, number_in-id d read.0 read.1)
 
 same_context-true : (a b : Context) → same_context a b ≡ true → a ≡ b
@@ -49,7 +50,7 @@ block_of-block rules context d n is =
     let read = bind_some (number_in d) (λ block. options.◌>>=◌ (slice_get rules.owners block) (λ owner. cond (same_context owner context) (Some block) None)) n is in
     let owner = bind_some (slice_get rules.owners read.0) (λ owner. cond (same_context owner context) (Some read.0) None) n read.2 in
     let test = passed (same_context owner.0 context) (Some read.0) n owner.2 in
-    let same = same_some read.0 n test.1 in
+    let same = same_Some read.0 n test.1 in
     subst (IsBlockOf rules context) same (record { owner = owner.1 ∙ ap Some (same_context-true owner.0 context test.0); is_id = number_in-id d read.0 read.1 })
 
 inner_of-allowed : (has_inner : Bool) (d : Data) (inner : Bool) → inner_of has_inner d ≡ Some inner → inner ≡ true → has_inner ≡ true
@@ -58,7 +59,7 @@ inner_of-allowed true d inner is on = refl
 inner_of-allowed false d inner is on =
     let read = bind_some (flag_in d) (λ flag. cond (flag && true) None (Some flag)) inner is in
     let test = not_refused (read.0 && true) (Some read.0) inner read.2 in
-    let same = same_some read.0 inner test.1 in
+    let same = same_Some read.0 inner test.1 in
     absurd (is_on read.0 (same ∙ on) test.0)
   where
     is_on : (flag : Bool) → flag ≡ true → (flag && true) ≡ false → ⊥
@@ -113,7 +114,7 @@ tasks_of-fit rules ds = at (eqb (length ds) (length rules.inner)) (eqb-true _ _)
 
 isr_at-fits : (rules : StateRules) (ds : List Data) (isr : Option IsrAt) → isr_at rules ds ≡ Some isr → IfSome isr (FitsIsr rules)
 unfolding isr_at
-isr_at-fits rules [] isr is = subst (λ (found : Option IsrAt). IfSome found (FitsIsr rules)) (same_some None isr is) tt
+isr_at-fits rules [] isr is = subst (λ (found : Option IsrAt). IfSome found (FitsIsr rules)) (same_Some None isr is) tt
 isr_at-fits rules (only ∷ []) isr is = absurd cc
 isr_at-fits rules (first ∷ second ∷ []) isr is =
     let id = bind_some (id_below rules.isrs first) (λ n. options.◌>>=◌ (block_of rules (Isr n) second) (λ block. Some (Some (record { isr = n; block = block })))) isr is in
@@ -121,7 +122,7 @@ isr_at-fits rules (first ∷ second ∷ []) isr is =
     let below = id_below-lt rules.isrs first id.0 id.1 in
     let at : IsrAt = record { isr = id.0; block = block.0 } in
     let fits : FitsIsr rules at = record { exists = below.0; is_id = below.1; at_block = block_of-block rules (Isr id.0) second block.0 block.1 } in
-    subst (λ (found : Option IsrAt). IfSome found (FitsIsr rules)) (same_some (Some at) isr block.2) fits
+    subst (λ (found : Option IsrAt). IfSome found (FitsIsr rules)) (same_Some (Some at) isr block.2) fits
 isr_at-fits rules (first ∷ second ∷ third ∷ rest) isr is = absurd cc
 
 state_of_parts-fits : (rules : StateRules) (parts : StateParts) → IfOk (state_of_parts rules parts) (FitsRules rules)

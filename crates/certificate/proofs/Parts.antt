@@ -7,9 +7,9 @@ use Rattle.serde_json.specs.Data.{Data}
 use Rattle.serde_json.specs.View.{view}
 use Rattle.serde_json.specs.declared.value.Value.{Value}
 use Rattle.json_fields.specs.Lists.{list_in}
-use Rattle.json_fields.specs.Objects.{has_exactly}
+use Rattle.json_fields.specs.Objects.{has_exactly, text_at, list_at}
 use Rattle.json_fields.specs.Forms.{is_text}
-use Rattle.certificate.specs.Form.{is_state, state_list, keys, text_at, list_at, cert_parts}
+use Rattle.certificate.specs.Form.{is_state, state_list, keys, cert_parts}
 
 pub state_list-view : (d : Data) (vs : List Value) (formed : Bool) → Some (map view vs) ≡ list_in d
     → formed ≡ list_all (λ v. is_state (view v)) vs

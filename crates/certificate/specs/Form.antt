@@ -5,10 +5,9 @@ use Rattle.std.specs.Prelude.{ℕ, List, [], ◌∷◌, length, Bool, true, fals
 use Rattle.std.specs.List.{list_all}
 use Rattle.listed.specs.Steps.Options.{◌>>=◌}
 use Rattle.serde_json.specs.Data.{Data}
-use Rattle.serde_json.specs.Find.{get, as_str}
 use Rattle.json_fields.specs.Forms.{is_number, is_text}
 use Rattle.json_fields.specs.Lists.{list_in}
-use Rattle.json_fields.specs.Objects.{has_exactly}
+use Rattle.json_fields.specs.Objects.{has_exactly, text_at, list_at}
 
 -- ---- states
 
@@ -69,13 +68,6 @@ pub record CertParts : Type 0 where
 
 abbrev pub keys : List (List ℕ)
 keys = codes "bound" ∷ codes "denominator" ∷ codes "multipliers" ∷ codes "states" ∷ codes "task" ∷ []
-
--- the text, or the list, at a key
-abbrev pub text_at : List ℕ → Data → Option (List ℕ)
-text_at key d = get key d >>= as_str
-
-abbrev pub list_at : List ℕ → Data → Option (List Data)
-list_at key d = get key d >>= list_in
 
 abbrev pub have_form : CertParts → Bool
 have_form parts = list_all is_text parts.multipliers && list_all is_state parts.states

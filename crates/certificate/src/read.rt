@@ -18,7 +18,9 @@ use crate::fault::{CertFault, CertKind, StatesFault, StatesKind};
 use crate::form::are_states;
 use crate::reading::states_of;
 use abstract_sched::{StateRules, States};
-use json_fields::{Format, digits_below, digits_in, each, has_exactly, list_in, read_file};
+use json_fields::{
+    Format, digits_below, digits_in, each, has_exactly, list_at, list_in, read_file, text_at,
+};
 use listed::{Fault, told_as};
 use serde_json::Value;
 use std::alloc::Global;
@@ -220,22 +222,4 @@ fn are_texts(values: &[Value]) -> bool
     ensures { result ≡ list_all (λ v. is_text (view v)) values.now }
 {
     values.iter().all(|value| value.is_string())
-}
-
-fn text_at<'v>(value: &'v Value, key: &str) -> Option<&'v str>
-    ensures { option_map (λ t. t.now) result ≡ form.text_at key.now (view value.now) }
-{
-    match value.get(key) {
-        Some(member) => member.as_str(),
-        None => None,
-    }
-}
-
-fn list_at<'v>(value: &'v Value, key: &str) -> Option<&'v [Value]>
-    ensures { option_map (λ vs. map view vs.now) result ≡ form.list_at key.now (view value.now) }
-{
-    match value.get(key) {
-        Some(member) => list_in(member),
-        None => None,
-    }
 }

@@ -46,6 +46,7 @@ fn the_certificate_of_the_lone_task(rt: HostRuntime) -> Result<(), Fail> {
     Ok(())
 }
 
+#[rattlefmt::skip]
 const FAULTS: [(&str, &str, CertKind); 15] = [
     ("{\"bound\"", "{\"at\":1,\"bound\"", CertKind::Shape),
     ("\"bound\":\"13\"", "\"bound\":13", CertKind::Shape),
@@ -54,11 +55,7 @@ const FAULTS: [(&str, &str, CertKind); 15] = [
     ("[[0,0]],[],0,0]", "[[0,0]],[],0]", CertKind::Shape),
     ("[[0,0]],[],0", "[[0,0]],[],true", CertKind::Shape),
     ("\"bound\":\"13\"", "\"bound\":\"013\"", CertKind::Range),
-    (
-        "\"denominator\":\"1\"",
-        "\"denominator\":\"0\"",
-        CertKind::Range,
-    ),
+    ("\"denominator\":\"1\"", "\"denominator\":\"0\"", CertKind::Range),
     ("[\"13\"", "[\"1208925819614629174706176\"", CertKind::Range),
     ("[[0,0]]", "[[1,0]]", CertKind::State),
     ("[[0,0]]", "[[0,1]]", CertKind::State),

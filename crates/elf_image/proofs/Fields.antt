@@ -9,9 +9,6 @@ use Rattle.elf_image.specs.Elf.{field2, field4, section_header, symbol_header, h
 pub number4 : (x : ℕ) (rest : List ℕ) → x < 2 ^ 32 → little_number 4 (little_bytes 4 x ++ rest) ≡ x
 number4 x rest fits = omega arith
 
-pub number2 : (x : ℕ) (rest : List ℕ) → x < 2 ^ 16 → little_number 2 (little_bytes 2 x ++ rest) ≡ x
-number2 x rest fits = omega arith
-
 pub field4-after : (a b : List ℕ) (k : ℕ) → field4 (a ++ b) (length a + k) ≡ field4 b k
 unfolding field4
 field4-after a b k = ap (little_number 4) (drop-append-add a b k)

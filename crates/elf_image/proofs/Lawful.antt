@@ -1,11 +1,11 @@
 -- What a reader builds is lawful.
-use Rattle.std.proofs.Common.{◌≡◌, ℕ, zero, suc, ◌+◌, ◌<◌, ◌≤◌, ◌^◌, Bool, true, false, ◌&&◌, ◌||◌, cond, List, [], ◌∷◌, length, take, drop, get_or, map, None, arith, refl, ◌∙◌, ap, inl, inr}
+use Rattle.std.proofs.Common.{◌≡◌, ℕ, zero, suc, ◌+◌, ◌<◌, ◌≤◌, ◌^◌, true, false, ◌&&◌, ◌||◌, cond, List, [], ◌∷◌, length, take, drop, get_or, map, None, arith, refl, ◌∙◌, ap, inl, inr}
 use Rattle.std.specs.Prelude.{count_by}
 use Rattle.std.specs.List.{list_all, list_any}
 use Rattle.std.proofs.lemmas.List.{get_or-drop}
 use Rattle.std.proofs.lemmas.List.Sums.{sum_by-cons, AllPass-from_list_all}
 use Rattle.std.proofs.lemmas.List.Elements.{All-map}
-use Rattle.std.proofs.lemmas.Bool.{cases_Bool}
+use Rattle.std.proofs.lemmas.Bool.{cases_Bool, or_parts, and_parts}
 use Rattle.std.proofs.lemmas.Bool.Decides.{nat_tests}
 use Rattle.elf_image.specs.Image.{IsSegment, IsLawful, covers, lies_in}
 use Rattle.elf_image.specs.Elf.{segment_fits, segment_of, section_of, overlaps, shares, code_fits, is_within, parts_fit, loaded_of, code_of, late_fault_of, tables_fit}
@@ -45,16 +45,12 @@ apart_from : (bytes : List ℕ) (one : ProgramHeader) (address : ℕ) → covers
     → list_any (shares one) others ≡ false → count_by (λ segment. covers segment address) (map (segment_of bytes) others) ≡ 0
 apart_from bytes one address here [] out = refl
 apart_from bytes one address here (other ∷ others) out =
-    let parted = neither (shares one other) (list_any (shares one) others) out in
+    let parted = or_parts (shares one other) (list_any (shares one) others) out in
     let rest = apart_from bytes one address here others parted.1 in
     let out_of : covers (segment_of bytes other) address ≡ false = not_both bytes one other address here parted.0 in
     sum_by-cons (λ segment. cond (covers segment address) 1 0) (segment_of bytes other) (map (segment_of bytes) others)
     ∙ ap (λ b. cond b 1 0 + count_by (λ segment. covers segment address) (map (segment_of bytes) others)) out_of ∙ omega (arith, rest)
   where
-    neither : (a b : Bool) → (a || b) ≡ false → (a ≡ false) × (b ≡ false)
-    neither false b h = (refl, h)
-    neither true b h = absurd cc
-
     not_both : (bytes : List ℕ) (one other : ProgramHeader) (address : ℕ) → covers (segment_of bytes one) address ≡ true → shares one other ≡ false
         → covers (segment_of bytes other) address ≡ false
     not_both bytes one other address here parted = grind (arith, nat_tests)
@@ -63,7 +59,7 @@ pub segments_apart : (bytes : List ℕ) (loaded : List ProgramHeader) → overla
     → count_by (λ segment. covers segment address) (map (segment_of bytes) loaded) ≤ 1
 segments_apart bytes [] h address = omega arith
 segments_apart bytes (one ∷ others) h address =
-    let parted = neither (list_any (shares one) others) (overlaps others) h in
+    let parted = or_parts (list_any (shares one) others) (overlaps others) h in
     let rest = segments_apart bytes others parted.1 address in
     let first = sum_by-cons (λ segment. cond (covers segment address) 1 0) (segment_of bytes one) (map (segment_of bytes) others) in
     elim (cases_Bool (covers (segment_of bytes one) address)) [
@@ -73,10 +69,6 @@ segments_apart bytes (one ∷ others) h address =
           omega (arith, first, none, e)
       | inr away ↦ let e : cond (covers (segment_of bytes one) address) 1 0 ≡ 0 = ap {B = ℕ} (λ b. cond b 1 0) away in omega (arith, first, rest, e)
     ]
-  where
-    neither : (a b : Bool) → (a || b) ≡ false → (a ≡ false) × (b ≡ false)
-    neither false b h = (refl, h)
-    neither true b h = absurd cc
 
 -- ---- Sections lie in segments
 
@@ -113,9 +105,4 @@ pub code_of_parts : (bytes : List ℕ) (loaded : List ProgramHeader) (code : Lis
 unfolding parts_fit
 code_of_parts bytes loaded code are_loaded are_code h =
     ap (λ l. list_all (code_fits l) code) are_loaded ∙ ap (list_all (code_fits (loaded_of bytes))) are_code
-    ∙ by_cases (tables_fit bytes) (list_all (segment_fits bytes) (loaded_of bytes)) (list_all (code_fits (loaded_of bytes)) (code_of bytes)) h
-  where
-    by_cases : (a b c : Bool) → (a && b && c) ≡ true → c ≡ true
-    by_cases true true c h = h
-    by_cases true false c h = absurd cc
-    by_cases false b c h = absurd cc
+    ∙ (and_parts (tables_fit bytes && list_all (segment_fits bytes) (loaded_of bytes)) (list_all (code_fits (loaded_of bytes)) (code_of bytes)) h).1

@@ -1,31 +1,16 @@
 -- A name has an end exactly where it begins before the last zero byte.
-use Rattle.std.proofs.Common.{◌≡◌, ◌≢◌, ℕ, zero, suc, ◌+◌, ◌-◌, ◌<◌, ◌≤◌, Bool, true, false, ◌||◌, ◌==◌, nat_lt, List, [], ◌∷◌, length, get_or, drop, inl, inr, refl, sym, ◌∙◌, ap, add-one, drop-cons, arith}
+use Rattle.std.proofs.Common.{◌≡◌, ℕ, zero, suc, ◌-◌, ◌<◌, ◌≤◌, true, false, ◌||◌, ◌==◌, nat_lt, List, [], ◌∷◌, length, get_or, inl, inr, sym, ◌∙◌, ap, arith}
 use Rattle.std.specs.List.{list_any}
-use Rattle.std.proofs.lemmas.Bool.{eq-eqb, ne_eqb, lt-ltb, le-ltb, cases_lt}
+use Rattle.std.proofs.lemmas.Bool.{eq-eqb, lt-ltb, le-ltb, cases_lt, or_right}
 use Rattle.elf_image.specs.Elf.{has_end}
-
-pub has_end-past : (names : List ℕ) (place : ℕ) → length names ≤ place → has_end names place ≡ false
-has_end-past [] zero h = refl
-has_end-past [] (suc place) h = refl
-has_end-past (n ∷ names) zero h = absurd (omega arith)
-has_end-past (n ∷ names) (suc place) h = has_end-past names place (omega arith)
-
-or_true : (b : Bool) → (b || true) ≡ true
-or_true true = refl
-or_true false = refl
 
 pub has_end-before : (names : List ℕ) (k place : ℕ) → place ≤ k → k < length names → get_or names k 0 ≡ 0 → has_end names place ≡ true
 has_end-before [] k place h below is_zero = absurd (omega arith)
 has_end-before (n ∷ names) zero zero h below is_zero = ap (λ b. b || list_any (λ byte. byte == 0) names) (eq-eqb n 0 is_zero)
 has_end-before (n ∷ names) zero (suc place) h below is_zero = absurd (omega arith)
 has_end-before (n ∷ names) (suc k) zero h below is_zero =
-    ap (λ b. (n == 0) || b) (has_end-before names k zero (omega arith) (omega arith) is_zero) ∙ or_true (n == 0)
+    or_right (n == 0) (has_end names zero) (has_end-before names k zero (omega arith) (omega arith) is_zero)
 has_end-before (n ∷ names) (suc k) (suc place) h below is_zero = has_end-before names k place (omega arith) (omega arith) is_zero
-
-pub has_end-step : (names : List ℕ) (place : ℕ) → place < length names → get_or names place 0 ≢ 0 → has_end names place ≡ has_end names (place + 1)
-has_end-step names place below other =
-    rw (add-one, drop-cons names place 0 below)
-    (ap (λ b. b || list_any (λ byte. byte == 0) (drop (suc place) names)) (ne_eqb (get_or names place 0) 0 other))
 
 pub has_end-is : (names : List ℕ) (end place : ℕ) → 0 < end → end ≤ length names → get_or names (end - 1) 0 ≡ 0
     → ((p : ℕ) → end ≤ p → has_end names p ≡ false) → has_end names place ≡ nat_lt place end

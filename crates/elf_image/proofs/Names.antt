@@ -1,5 +1,5 @@
 -- How a name that ends before a zero byte is compared with a text, byte by byte.
-use Rattle.std.proofs.Common.{◌≡◌, ◌≢◌, ℕ, suc, ◌+◌, ◌<◌, Bool, true, false, not, ◌==◌, cond, ◌⊎◌, List, [], ◌∷◌, ◌++◌, length, get_or, drop, take_while, bytes_eq, refl, add-one, drop-cons, arith}
+use Rattle.std.proofs.Common.{◌≡◌, ◌≢◌, ℕ, suc, ◌+◌, ◌<◌, Bool, true, false, not, ◌==◌, cond, List, [], ◌∷◌, ◌++◌, length, get_or, drop, take_while, bytes_eq, refl, add-one, drop-cons, arith}
 use Rattle.std.proofs.lemmas.List.Sums.{take_while-cons}
 
 -- the name at the front of a text
@@ -9,27 +9,11 @@ front text = take_while (λ byte. not (byte == 0)) text
 agree_at_head : (b : ℕ) (text word : List ℕ) → b ≢ 0 → bytes_eq (front (b ∷ text)) (b ∷ word) ≡ bytes_eq (front text) word
 agree_at_head b text word h = rw (take_while-cons (λ byte. not (byte == 0)) b text) (grind arith)
 
-differ_at_head : (t b : ℕ) (text word : List ℕ) → (b ≡ 0) ⊎ (t ≢ b) → bytes_eq (front (t ∷ text)) (b ∷ word) ≡ false
-differ_at_head t b text word h = rw (take_while-cons (λ byte. not (byte == 0)) t text) (grind arith)
-
 pub agree : (text part more : List ℕ) (i : ℕ) → i < length text → i < length part → get_or part i 0 ≢ 0 → get_or text i 0 ≡ get_or part i 0
     → bytes_eq (front (drop i text)) (drop i part ++ more) ≡ bytes_eq (front (drop (i + 1) text)) (drop (i + 1) part ++ more)
 agree text part more i in_text in_part some same =
     rw (add-one, drop-cons text i 0 in_text, drop-cons part i 0 in_part, same)
     (agree_at_head (get_or part i 0) (drop (suc i) text) (drop (suc i) part ++ more) some)
-
-pub differ : (text part more : List ℕ) (i : ℕ) → i < length text → i < length part → (get_or part i 0 ≡ 0) ⊎ (get_or text i 0 ≢ get_or part i 0)
-    → bytes_eq (front (drop i text)) (drop i part ++ more) ≡ false
-differ text part more i in_text in_part other =
-    rw (drop-cons text i 0 in_text, drop-cons part i 0 in_part)
-    (differ_at_head (get_or text i 0) (get_or part i 0) (drop (suc i) text) (drop (suc i) part ++ more) other)
-
--- a text that is shorter than the word has another name at its front
-pub shorter : (text word : List ℕ) → length text < length word → bytes_eq (front text) word ≡ false
-shorter text [] h = absurd (omega arith)
-shorter [] (b ∷ word) h = refl
-shorter (t ∷ text) (b ∷ word) h =
-    rw (take_while-cons (λ byte. not (byte == 0)) t text) (let rest = shorter text word (omega arith) in grind arith)
 
 -- a name ends where the text does, or before a zero byte
 pub ends_with_text : (text : List ℕ) → length text ≡ 0 → bytes_eq (front text) [] ≡ true

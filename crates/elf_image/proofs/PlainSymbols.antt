@@ -1,7 +1,7 @@
 -- The symbols of a plain file are read as they were put.
-use Rattle.std.proofs.Common.{◌≡◌, ◌≢◌, ℕ, suc, ◌+◌, ◌*◌, ◌^◌, ◌<◌, Bool, true, false, not, ◌==◌, ◌||◌, ◌&&◌, cond, List, [], ◌∷◌, ◌++◌, length, map, flat_map, filter, take_while, refl, sym, ◌∙◌, ap, append_assoc, arith}
+use Rattle.std.proofs.Common.{◌≡◌, ◌≢◌, ℕ, suc, ◌+◌, ◌*◌, ◌^◌, ◌<◌, true, not, ◌==◌, ◌&&◌, cond, List, [], ◌∷◌, ◌++◌, length, map, flat_map, filter, take_while, refl, sym, ◌∙◌, ap, append_assoc, arith}
 use Rattle.std.specs.List.{AllByRecursion, list_all, list_any}
-use Rattle.std.proofs.lemmas.Bool.{ne_eqb}
+use Rattle.std.proofs.lemmas.Bool.{ne_eqb, or_right}
 use Rattle.std.proofs.lemmas.List.{length-append}
 use Rattle.std.proofs.lemmas.List.Sums.{take_while-cons}
 use Rattle.std.proofs.Math.Seq.{drop-append_seam}
@@ -61,13 +61,9 @@ front_name (b ∷ name) rest whole =
     ∙ ap (λ t. cond (not t) (b ∷ take_while (λ byte. not (byte == 0)) (name ++ 0 ∷ rest)) []) (ne_eqb b 0 whole.0)
     ∙ ap (λ xs. b ∷ xs) (front_name name rest whole.1)
 
-or_true : (b : Bool) → (b || true) ≡ true
-or_true true = refl
-or_true false = refl
-
 zero_behind : (name rest : List ℕ) → list_any (λ byte. byte == 0) (name ++ 0 ∷ rest) ≡ true
 zero_behind [] rest = refl
-zero_behind (b ∷ name) rest = ap (λ t. (b == 0) || t) (zero_behind name rest) ∙ or_true (b == 0)
+zero_behind (b ∷ name) rest = or_right (b == 0) (list_any (λ byte. byte == 0) (name ++ 0 ∷ rest)) (zero_behind name rest)
 
 regrouped : (q name rest : List ℕ) → q ++ (name ++ 0 ∷ rest) ≡ (q ++ (name ++ 0 ∷ [])) ++ rest
 regrouped q name rest =

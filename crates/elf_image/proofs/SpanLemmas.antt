@@ -5,7 +5,7 @@ use Rattle.std.specs.List.{list_any}
 use Rattle.std.proofs.lemmas.List.Sums.{sum_by-cons}
 use Rattle.std.proofs.lemmas.List.Sorted.{sum_by-IsPermutation, All-permutation}
 use Rattle.std.proofs.lemmas.List.Elements.{filter_passes}
-use Rattle.std.proofs.lemmas.Bool.{lt-ltb, le-ltb, ltb-true, ltb-false, le-leb, lt-leb, cases_lt}
+use Rattle.std.proofs.lemmas.Bool.{lt-ltb, le-ltb, ltb-true, ltb-false, le-leb, lt-leb, cases_lt, or_right}
 use Rattle.elf_image.specs.Elf.{shares, overlaps, is_within}
 use Rattle.elf_image.specs.Working.Spans.{is_filled, IsInOrder, end_of, reach_of}
 use Rattle.elf_image.specs.declared.headers.ProgramHeader.{ProgramHeader}
@@ -13,14 +13,10 @@ use Rattle.elf_image.specs.declared.headers.SectionHeader.{SectionHeader}
 
 -- ---- any
 
-or_true : (b : Bool) → (b || true) ≡ true
-or_true true = refl
-or_true false = refl
-
 pub any_at : {X : Type 0} (p : X → Bool) (xs : List X) (i : ℕ) (d : X) → i < length xs → p (get_or xs i d) ≡ true → list_any p xs ≡ true
 any_at p [] i d below h = absurd (omega arith)
 any_at p (x ∷ xs) zero d below h = ap (λ b. b || list_any p xs) h
-any_at p (x ∷ xs) (suc i) d below h = ap (λ b. p x || b) (any_at p xs i d (omega arith) h) ∙ or_true (p x)
+any_at p (x ∷ xs) (suc i) d below h = or_right (p x) (list_any p xs) (any_at p xs i d (omega arith) h)
 
 pub any_none : {X : Type 0} (p : X → Bool) (xs : List X) → ((i : ℕ) (d : X) → i < length xs → p (get_or xs i d) ≡ false) → list_any p xs ≡ false
 any_none p [] h = refl
@@ -49,12 +45,6 @@ any_counts p (x ∷ xs) =
 pub any-permutation : {X : Type 0} (p : X → Bool) (xs ys : List X) → IsPermutation xs ys → list_any p ys ≡ list_any p xs
 any-permutation p xs ys moved =
     any_counts p ys ∙ ap (nat_lt 0) (sum_by-IsPermutation (λ y. cond (p y) 1 0) xs ys moved) ∙ sym (any_counts p xs)
-
--- within the list the default doesn't matter
-pub any_default : {X : Type 0} (xs : List X) (i : ℕ) (d e : X) → i < length xs → get_or xs i d ≡ get_or xs i e
-any_default [] i d e below = absurd (omega arith)
-any_default (x ∷ xs) zero d e below = refl
-any_default (x ∷ xs) (suc i) d e below = any_default xs i d e (omega arith)
 
 -- ---- overlaps do not depend on the order
 
@@ -155,7 +145,7 @@ overlaps_at [] j i d before below h = absurd (omega arith)
 overlaps_at (x ∷ xs) j zero d before below h = absurd (omega arith)
 overlaps_at (x ∷ xs) zero (suc i) d before below h = ap (λ b. b || overlaps xs) (any_at (shares x) xs i d (omega arith) h)
 overlaps_at (x ∷ xs) (suc j) (suc i) d before below h =
-    ap (λ b. list_any (shares x) xs || b) (overlaps_at xs j i d (omega arith) (omega arith) h) ∙ or_true (list_any (shares x) xs)
+    or_right (list_any (shares x) xs) (overlaps xs) (overlaps_at xs j i d (omega arith) (omega arith) h)
 
 pub overlaps_none : (xs : List ProgramHeader) → ((j i : ℕ) (d : ProgramHeader) → j < i → i < length xs → shares (get_or xs j d) (get_or xs i d) ≡ false) → overlaps xs ≡ false
 overlaps_none [] h = refl

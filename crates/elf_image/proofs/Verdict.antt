@@ -1,7 +1,7 @@
 -- The fault of a file, from the answers of the reader's steps.
 use Rattle.std.proofs.Common.{◌≡◌, ℕ, ◌<◌, ◌≤◌, inl, inr, ◌%◌, ◌==◌, All, filter, Bool, true, false, ◌&&◌, nat_lt, List, length, Option, Some, None, Ok, Err, map, refl, sym, ◌∙◌, ap}
 use Rattle.std.specs.List.{list_all}
-use Rattle.std.proofs.lemmas.Bool.{ltb-true, lt-ltb, cases_lt}
+use Rattle.std.proofs.lemmas.Bool.{ltb-true, lt-ltb, cases_lt, and_parts}
 use Rattle.std.proofs.lemmas.List.Elements.{All-weaker, filter_passes}
 use Rattle.elf_image.specs.declared.symbol.Entry.{Entry}
 use Rattle.elf_image.specs.Image.{symbol_in}
@@ -53,22 +53,17 @@ body_late bytes table h found fit = rw (h, found, fit) refl
 
 -- ---- parts and symbols
 
-pub tables_of_parts : (bytes : List ℕ) → parts_fit bytes ≡ true → tables_fit bytes ≡ true
+first_parts : (bytes : List ℕ) → parts_fit bytes ≡ true → (tables_fit bytes ≡ true) × (list_all (segment_fits bytes) (loaded_of bytes) ≡ true)
 unfolding parts_fit
-tables_of_parts bytes h = by_cases (tables_fit bytes) (list_all (segment_fits bytes) (loaded_of bytes)) (list_all (code_fits (loaded_of bytes)) (code_of bytes)) h
-  where
-    by_cases : (a b c : Bool) → (a && b && c) ≡ true → a ≡ true
-    by_cases true b c h = refl
-    by_cases false b c h = h
+first_parts bytes h =
+    let both = and_parts (tables_fit bytes && list_all (segment_fits bytes) (loaded_of bytes)) (list_all (code_fits (loaded_of bytes)) (code_of bytes)) h in
+    and_parts (tables_fit bytes) (list_all (segment_fits bytes) (loaded_of bytes)) both.0
+
+pub tables_of_parts : (bytes : List ℕ) → parts_fit bytes ≡ true → tables_fit bytes ≡ true
+tables_of_parts bytes h = (first_parts bytes h).0
 
 pub segments_of_parts : (bytes : List ℕ) (loaded : List ProgramHeader) → loaded ≡ loaded_of bytes → parts_fit bytes ≡ true → list_all (segment_fits bytes) loaded ≡ true
-unfolding parts_fit
-segments_of_parts bytes loaded are_loaded h = ap (list_all (segment_fits bytes)) are_loaded ∙ by_cases (tables_fit bytes) (list_all (segment_fits bytes) (loaded_of bytes)) (list_all (code_fits (loaded_of bytes)) (code_of bytes)) h
-  where
-    by_cases : (a b c : Bool) → (a && b && c) ≡ true → b ≡ true
-    by_cases true true c h = refl
-    by_cases true false c h = h
-    by_cases false b c h = absurd cc
+segments_of_parts bytes loaded are_loaded h = ap (list_all (segment_fits bytes)) are_loaded ∙ (first_parts bytes h).1
 
 pub parts_without_tables : (bytes : List ℕ) → tables_fit bytes ≡ false → parts_fit bytes ≡ false
 unfolding parts_fit
@@ -110,12 +105,8 @@ unfolding code_of
 code_is_filled bytes =
     All-weaker (λ section. is_code section ≡ true) (λ section. 0 < section.size) filled (filter is_code (section_headers bytes)) (filter_passes is_code (section_headers bytes))
   where
-    by_cases : (a b : Bool) → (a && b) ≡ true → b ≡ true
-    by_cases true b h = h
-    by_cases false b h = absurd cc
-
     filled : (section : SectionHeader) → is_code section ≡ true → 0 < section.size
-    filled section h = ltb-true 0 section.size (by_cases (section.flags % 8 == 6) (nat_lt 0 section.size) h)
+    filled section h = ltb-true 0 section.size (and_parts (section.flags % 8 == 6) (nat_lt 0 section.size) h).1
 
 -- a file without a fault in its header has a whole one
 pub long_enough : (bytes : List ℕ) → header_fault_of bytes ≡ None → 52 ≤ length bytes

@@ -4,7 +4,8 @@ ghost use Rattle.std.specs.List.{list_all};
 ghost use Rattle.elf_image.specs.Elf.{headers_from, program_header, section_header, symbol_header, is_loaded, is_code, is_symbol_table, is_defined, entry_of, lies_in_file, tables_fit, loaded_of, code_of, symbol_table_of};
 
 use crate::headers::{
-    ProgramHeader, SectionHeader, field2, field4, program_header, section_header, symbol_header,
+    ProgramHeader, SectionHeader, SymbolHeader, field2, field4, program_header, section_header,
+    symbol_header,
 };
 use crate::symbol::Entry;
 use listed::Memory;
@@ -46,6 +47,22 @@ pub(crate) fn loaded_headers(alloc: Global, bytes: &[u8]) -> Result<Vec<ProgramH
     )
 }
 
+#[tactic(auto, unfolding(crate::specs::Elf::headers_from))]
+fn program_headers(
+    alloc: Global,
+    bytes: &[u8],
+    table: usize,
+    count: usize,
+) -> Result<Vec<ProgramHeader>, Memory>
+    requires { table + 32 * count ≤ length bytes.now }
+    ensures { IfOk result (λ found. found.items ≡ headers_from (program_header bytes.now) table 32 count) }
+{
+    let found = (0..count)
+        .map(|i| program_header(bytes, table + 32 * i))
+        .collect(alloc)?;
+    Ok(found)
+}
+
 fn loaded_from(
     alloc: Global,
     bytes: &[u8],
@@ -55,13 +72,8 @@ fn loaded_from(
     requires { table + 32 * count ≤ length bytes.now }
     ensures { IfOk result (λ found. found.items ≡ filter is_loaded (headers_from (program_header bytes.now) table 32 count)) }
 {
-    let mut found = Vec::new(alloc);
-    for i in 0..count {
-        let header = program_header(bytes, table + 32 * i);
-        if header.kind == 1 {
-            found.push(header)?;
-        }
-    }
+    let mut found = program_headers(alloc, bytes, table, count)?;
+    found.retain(|header| header.kind == 1);
     Ok(found)
 }
 
@@ -88,6 +100,22 @@ fn is_code(header: &SectionHeader) -> bool
     header.flags % 8 == 6 && header.size > 0
 }
 
+#[tactic(auto, unfolding(crate::specs::Elf::headers_from))]
+fn section_headers(
+    alloc: Global,
+    bytes: &[u8],
+    table: usize,
+    count: usize,
+) -> Result<Vec<SectionHeader>, Memory>
+    requires { table + 40 * count ≤ length bytes.now }
+    ensures { IfOk result (λ found. found.items ≡ headers_from (section_header bytes.now) table 40 count) }
+{
+    let found = (0..count)
+        .map(|i| section_header(bytes, table + 40 * i))
+        .collect(alloc)?;
+    Ok(found)
+}
+
 fn code_from(
     alloc: Global,
     bytes: &[u8],
@@ -97,13 +125,8 @@ fn code_from(
     requires { table + 40 * count ≤ length bytes.now }
     ensures { IfOk result (λ found. found.items ≡ filter is_code (headers_from (section_header bytes.now) table 40 count)) }
 {
-    let mut found = Vec::new(alloc);
-    for i in 0..count {
-        let header = section_header(bytes, table + 40 * i);
-        if is_code(&header) {
-            found.push(header)?;
-        }
-    }
+    let mut found = section_headers(alloc, bytes, table, count)?;
+    found.retain(|header| is_code(header));
     Ok(found)
 }
 
@@ -134,6 +157,36 @@ fn symbol_table_from(bytes: &[u8], table: usize, count: usize) -> Option<Section
     None
 }
 
+#[tactic(auto, unfolding(crate::specs::Elf::headers_from))]
+fn symbol_headers(
+    alloc: Global,
+    bytes: &[u8],
+    table: usize,
+    count: usize,
+) -> Result<Vec<SymbolHeader>, Memory>
+    requires { table + 16 * count ≤ length bytes.now }
+    ensures { IfOk result (λ found. found.items ≡ headers_from (symbol_header bytes.now) table 16 count) }
+{
+    let found = (0..count)
+        .map(|i| symbol_header(bytes, table + 16 * i))
+        .collect(alloc)?;
+    Ok(found)
+}
+
+fn defined_symbols(
+    alloc: Global,
+    bytes: &[u8],
+    table: usize,
+    count: usize,
+) -> Result<Vec<SymbolHeader>, Memory>
+    requires { table + 16 * count ≤ length bytes.now }
+    ensures { IfOk result (λ found. found.items ≡ filter is_defined (headers_from (symbol_header bytes.now) table 16 count)) }
+{
+    let mut found = symbol_headers(alloc, bytes, table, count)?;
+    found.retain(|header| header.section != 0);
+    Ok(found)
+}
+
 /// The defined ones of the symbols that stand from the place on.
 pub(crate) fn entries_from(
     alloc: Global,
@@ -144,15 +197,13 @@ pub(crate) fn entries_from(
     requires { table + 16 * count ≤ length bytes.now }
     ensures { IfOk result (λ found. found.items ≡ map entry_of (filter is_defined (headers_from (symbol_header bytes.now) table 16 count))) }
 {
-    let mut found = Vec::new(alloc);
-    for i in 0..count {
-        let header = symbol_header(bytes, table + 16 * i);
-        if header.section != 0 {
-            found.push(Entry {
-                place: header.name,
-                value: header.value,
-            })?;
-        }
-    }
-    Ok(found)
+    let symbols = defined_symbols(alloc, bytes, table, count)?;
+    let entries = symbols
+        .iter()
+        .map(|header| Entry {
+            place: header.name,
+            value: header.value,
+        })
+        .collect(alloc)?;
+    Ok(entries)
 }

@@ -166,35 +166,6 @@ fn damaged_files_have_their_kinds(rt: HostRuntime) -> Result<(), Fail> {
 }
 
 #[test]
-fn two_segments_may_touch_and_not_overlap(rt: HostRuntime) -> Result<(), Fail> {
-    // The second segment, four bytes at the address 0x100, 0x11b or 0x11c.
-    for (low, kind) in [
-        (0, Some(ElfKind::Overlap)),
-        (0x1b, Some(ElfKind::Overlap)),
-        (0x1c, None),
-    ] {
-        let mut file = with_attributes(rt.alloc())?;
-        change(
-            &mut file,
-            &[(392, 1), (395, 0), (400, low), (401, 1), (412, 4)],
-        );
-        assert_eq!(rt; kind_of(rt.alloc(), &file), kind, "at low byte {low}");
-    }
-    Ok(())
-}
-
-#[test]
-fn memory_is_zero_behind_its_bytes(rt: HostRuntime) -> Result<(), Fail> {
-    // The segment and the code section are four bytes longer than the words.
-    let file = changed(rt.alloc(), &[(72, 0x20), (260, 0x20)])?;
-    let image = read_elf(rt.alloc(), &file)?;
-    assert_eq!(rt; image.word(0x118), Some(0x73));
-    assert_eq!(rt; image.word(0x11c), Some(0));
-    assert_eq!(rt; image.word(0x120), None);
-    Ok(())
-}
-
-#[test]
 fn flat_bytes_are_all_code(rt: HostRuntime) -> Result<(), Fail> {
     let bytes = [0x93, 0x02, 0x70, 0, 0x73, 0, 0, 0];
     let image = flat(rt.alloc(), &bytes)?;

@@ -1,6 +1,6 @@
 -- What std reads as a hexadecimal number, in this crate's words.
 use Rattle.std.proofs.Common.{◌≡◌, ◌≢◌, ℕ, suc, ◌<◌, ◌≤◌, ◌^◌, length, true, List, [], ◌∷◌, Result, Ok, Some, refl, sym, ap, ◌∙◌, arith, get_or, drop, subst}
-use Rattle.std.proofs.lemmas.Bool.{false≢true}
+use Rattle.std.proofs.lemmas.Bool.{false≢true, and_parts}
 use Rattle.std.specs.Prelude.{nat_lt, nat_le, codes}
 use Rattle.std.specs.Char.{digit_value}
 use Rattle.std.specs.List.{list_all}
@@ -12,18 +12,17 @@ use Rattle.std.proofs.lemmas.Int.Digits.{digits_value-lt}
 use Rattle.std.proofs.lemmas.Result.{Ok-from_Ok_iff}
 use Rattle.std.proofs.lemmas.Str.Parse.{without_leading_plus_none}
 use Rattle.json_fields.specs.Numbers.{address_of}
-use Rattle.json_fields.proofs.Numerals.{both}
 
 all_hexadecimal : (ds : List ℕ) → list_all (λ c. nat_lt (digit_value c) 16) ds ≡ true → AllDigits 16 ds
 all_hexadecimal [] h = tt
-all_hexadecimal (c ∷ cs) h = (ltb-true _ _ (both _ _ h).0, all_hexadecimal cs (both _ _ h).1)
+all_hexadecimal (c ∷ cs) h = (ltb-true _ _ (and_parts _ _ h).0, all_hexadecimal cs (and_parts _ _ h).1)
 
 no_plus_in : (c : ℕ) → nat_lt (digit_value c) 16 ≡ true → c ≢ 43
 no_plus_in c h is = absurd (false≢true (subst (λ d. nat_lt (digit_value d) 16 ≡ true) is h))
 
 no_plus : (ds : List ℕ) → list_all (λ c. nat_lt (digit_value c) 16) ds ≡ true → get_or ds 0 0 ≢ 43
 no_plus [] h = λ is. absurd (omega arith)
-no_plus (c ∷ cs) h = no_plus_in c (both _ _ h).0
+no_plus (c ∷ cs) h = no_plus_in c (and_parts _ _ h).0
 
 pub below : (ds : List ℕ) → list_all (λ c. nat_lt (digit_value c) 16) ds ≡ true → length ds ≤ 8 → digits_value 16 ds < 2 ^ 32
 below ds h short =

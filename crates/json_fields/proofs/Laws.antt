@@ -1,35 +1,25 @@
 -- What the words on a JSON value promise: one value and one answer for the bytes, and numbers in their ranges.
-use Rattle.std.proofs.Common.{Bool, true, false, cond, ◌^◌, ◌≡◌, ℕ, ◌<◌, ◌≤◌, List, length, Option, Some, None, option_map, Result, Ok, Err, refl, sym, ap, ◌∙◌, arith, inl, inr}
+use Rattle.std.proofs.Common.{Bool, true, false, cond, ◌^◌, ◌≡◌, ℕ, ◌<◌, ◌≤◌, List, length, Option, Some, None, Result, Ok, Err, refl, ap, arith, inl, inr}
 use Rattle.std.specs.Prelude.{IfOk, ok_or, codes, bytes_eq, take, drop, nat_le, nat_lt, option_and_then, ◌&&◌}
 use Rattle.std.specs.Char.{digit_value}
 use Rattle.std.specs.List.{list_all}
-use Rattle.std.proofs.lemmas.Bool.{leb-true, ltb-true}
+use Rattle.std.proofs.lemmas.Bool.{leb-true, ltb-true, and_parts}
 use Rattle.std.proofs.lemmas.List.{length-drop}
 use Rattle.json_fields.proofs.Addresses.{below}
 use Rattle.std.proofs.lemmas.Option.{option_and_then_some, cond_some}
 use Rattle.std.specs.Str.Parse.{digits_value}
 use Rattle.serde_json.specs.Data.{Data}
 use Rattle.serde_json.specs.Find.{as_number, as_str, as_u64}
-use Rattle.json_fields.specs.Files.{HasValue, IsGiven, Answers}
+use Rattle.json_fields.specs.Files.{Answers}
 use Rattle.listed.specs.declared.fault.Fault.{Fault}
 use Rattle.listed.specs.Steps.Options.{◌>>=◌}
 use Rattle.json_fields.specs.Lists.{list_in, list_up_to}
 use Rattle.json_fields.specs.Numbers.{within, whole_in, is_digits, digits_below, digits_in, is_address, address_of, address_in}
-use Rattle.json_fields.proofs.Numerals.{both}
-
-pub one_value : (bytes : List ℕ) (d e : Data) → HasValue bytes d → HasValue bytes e → d ≡ e
-one_value bytes d e has also = cc (has.1, also.1)
-
-pub one_given : {X K : Type 0} (no_value : K) (format : Data → Result X K) (bytes : List ℕ) (r s : Result X K) → IsGiven no_value format bytes r → IsGiven no_value format bytes s → r ≡ s
-one_given no_value format bytes r s (inl a) (inl b) = sym a.2 ∙ ap format (one_value bytes a.0 b.0 a.1 b.1) ∙ b.2
-one_given no_value format bytes r s (inl a) (inr b) = absurd (b.0 a.0 a.1)
-one_given no_value format bytes r s (inr a) (inl b) = absurd (a.0 b.0 b.1)
-one_given no_value format bytes r s (inr a) (inr b) = a.1 ∙ sym b.1
 
 within-range : (low high m n : ℕ) → within low high m ≡ Some n → (low ≤ n) × (n ≤ high)
 within-range low high m n is =
     let tests = cond_some (nat_le low m && nat_le m high) m n is in
-    let parts = both (nat_le low m) (nat_le m high) tests.0 in
+    let parts = and_parts (nat_le low m) (nat_le m high) tests.0 in
     (omega (arith, leb-true low m parts.0, tests.1), omega (arith, leb-true m high parts.1, tests.1))
 
 pub whole_in-range : (low high : ℕ) (d : Data) (n : ℕ) → whole_in low high d ≡ Some n → (low ≤ n) × (n ≤ high)
@@ -39,7 +29,7 @@ whole_in-range low high d n is =
 pub digits_below-lt : (limit : ℕ) (text : List ℕ) (n : ℕ) → digits_below limit text ≡ Some n → n < limit
 digits_below-lt limit text n is =
     let tests = cond_some (is_digits text && nat_lt (digits_value 10 text) limit) (digits_value 10 text) n is in
-    omega (arith, ltb-true (digits_value 10 text) limit (both _ _ tests.0).1, tests.1)
+    omega (arith, ltb-true (digits_value 10 text) limit (and_parts _ _ tests.0).1, tests.1)
 
 pub digits_in-lt : (limit : ℕ) (d : Data) (n : ℕ) → digits_in limit d ≡ Some n → n < limit
 digits_in-lt limit d n is = option_and_then_some (digits_below limit) (as_str d) n is (λ text _ at. digits_below-lt limit text n at)
@@ -57,15 +47,12 @@ pub not_refused : {A : Type 0} (test : Bool) (o : Option A) (y : A) → cond tes
 not_refused true o y is = absurd cc
 not_refused false o y is = (refl, is)
 
-pub same_some : {A : Type 0} (x y : A) → Some x ≡ Some y → x ≡ y
-same_some x y is = cc
-
 address_of-lt : (text : List ℕ) (n : ℕ) → address_of text ≡ Some n → n < 2 ^ 32
 address_of-lt text n is =
     let tests = cond_some (is_address text) (digits_value 16 (drop 2 text)) n is in
     let prefix = bytes_eq (take 2 text) (codes "0x") && nat_lt 2 (length text) in
-    let last = both (prefix && nat_le (length text) 10) (list_all (λ c. nat_lt (digit_value c) 16) (drop 2 text)) tests.0 in
-    let few = both prefix (nat_le (length text) 10) last.0 in
+    let last = and_parts (prefix && nat_le (length text) 10) (list_all (λ c. nat_lt (digit_value c) 16) (drop 2 text)) tests.0 in
+    let few = and_parts prefix (nat_le (length text) 10) last.0 in
     let short : length (drop 2 text) ≤ 8 = omega (arith, length-drop 2 text, leb-true (length text) 10 few.1) in
     omega (arith, below (drop 2 text) last.1 short, tests.1)
 

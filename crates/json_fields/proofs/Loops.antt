@@ -19,10 +19,6 @@ one_more : {B K : Type 0} (front : List B) (y : B) (rest : Result (List B) K) �
 one_more front y (Err kind) = refl
 one_more front y (Ok ys) = ap Ok (sym (append_assoc front (y ∷ []) ys))
 
-pub starts : {B K : Type 0} (read : Result (List B) K) → with_front [] read ≡ read
-starts (Err kind) = refl
-starts (Ok ys) = refl
-
 split_at : (vs : List Value) (i : ℕ) (v : Value) → i < length vs → v ≡ get_or vs i v → drop i vs ≡ v ∷ drop (suc i) vs
 split_at vs i v lt at = drop-cons vs i v lt ∙ ap (λ w. w ∷ drop (suc i) vs) (sym at)
 

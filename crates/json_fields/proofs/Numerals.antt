@@ -1,7 +1,7 @@
 -- What std reads as a number, in this crate's words.
-use Rattle.std.proofs.Common.{◌≡◌, ℕ, ◌<◌, ◌^◌, length, Bool, true, false, List, [], ◌∷◌, Result, Err, refl, arith, rules, None, inl, inr}
+use Rattle.std.proofs.Common.{◌≡◌, ℕ, ◌<◌, ◌^◌, length, Bool, true, List, [], ◌∷◌, Result, Err, refl, arith, rules, None, inl, inr}
 use Rattle.std.specs.Prelude.{◌&&◌}
-use Rattle.std.proofs.lemmas.Bool.{cases_lt, le-ltb}
+use Rattle.std.proofs.lemmas.Bool.{cases_lt, le-ltb, and_parts}
 use Rattle.std.proofs.lemmas.Result.{OkIff-at_err}
 use Rattle.std.specs.Char.{is_ascii_digit}
 use Rattle.std.specs.List.{list_all}
@@ -16,10 +16,6 @@ digits_test = search rules
 pub numerals : IsNumeralModel (λ ds. list_all is_ascii_digit ds ≡ true) (digits_value 10)
 numerals = numerals_by_value _ digits_test
 
-pub both : (a b : Bool) → (a && b) ≡ true → (a ≡ true) × (b ≡ true)
-both true b h = (refl, h)
-both false b h = absurd cc
-
 one_digit : (a : Bool) → a ≡ true → (a && true) ≡ true
 one_digit a h = rw h
 
@@ -27,7 +23,7 @@ one_digit a h = rw h
 pub digits_are_digits : (text : List ℕ) → is_digits text ≡ true → (list_all is_ascii_digit text ≡ true) × (0 < length text)
 digits_are_digits [] h = absurd cc
 digits_are_digits (c ∷ []) h = (one_digit _ h, omega arith)
-digits_are_digits (c ∷ d ∷ rest) h = ((both _ _ h).1, omega arith)
+digits_are_digits (c ∷ d ∷ rest) h = ((and_parts _ _ h).1, omega arith)
 
 -- what `parse` reads of a text of digits
 parses : {E : Type 0} (text : List ℕ) (r : Result ℕ E) → ParsesUnsigned 128 10 text r → is_digits text ≡ true → OkIff r ((0 < length text) × (digits_value 10 text < 2 ^ 128)) (digits_value 10 text)

@@ -1,6 +1,6 @@
 -- Laws of the words on JSON values.
 use Rattle.std.proofs.Common.{◌≡◌, ℕ, Bool, List, [], ◌∷◌, map, String, Global, string_bytes, bytes_eq, Bor, refl, ap}
-use Rattle.std.specs.Prelude.{◌||◌, ◌&&◌}
+use Rattle.std.specs.Prelude.{◌||◌}
 use Rattle.std.specs.List.{list_any, list_all}
 use Rattle.serde_json.specs.Data.{Data}
 use Rattle.serde_json.specs.View.{items_of, view, items_view, members_view}
@@ -18,14 +18,6 @@ members_of-items_of (d ∷ ds) = ap (λ more. d ∷ more) (members_of-items_of d
 
 pub members_of-items_view : (vs : List Value) → members_of (items_view vs) ≡ map view vs
 members_of-items_view vs = members_of-items_of (map view vs)
-
-pub list_all-same : {X : Type 0} (p q : X → Bool) → ((x : X) → p x ≡ q x) → (xs : List X) → list_all p xs ≡ list_all q xs
-list_all-same p q same [] = refl
-list_all-same p q same (x ∷ xs) = rw (same x, list_all-same p q same xs)
-
-pub keys_pass-view : (test : List ℕ → Bool) (es : List (String Global × Value)) → keys_pass test (members_view es) ≡ list_all (λ k. test (string_bytes k)) (map (λ e. e.0) es)
-keys_pass-view test [] = refl
-keys_pass-view test (e ∷ es) = ap (λ b. test (string_bytes e.0) && b) (keys_pass-view test es)
 
 is_known : (required optional : List (Bor (List ℕ))) (key : List ℕ)
     → (list_any (λ k. bytes_eq k.now key) required || list_any (λ k. bytes_eq k.now key) optional)

@@ -1,9 +1,10 @@
--- The keys of a JSON object.
-use Rattle.std.specs.Prelude.{ℕ, List, ◌&&◌, ◌||◌, Bool, true, false, is_some, map, option_map, unwrap_or, bytes_eq, [], ◌∷◌, codes, ◌≡◌, refl}
+-- The keys of a JSON object, and what stands at them.
+use Rattle.std.specs.Prelude.{ℕ, List, ◌&&◌, ◌||◌, Bool, true, false, Option, Some, None, is_some, map, option_and_then, option_map, unwrap_or, bytes_eq, [], ◌∷◌, codes, ◌≡◌, refl}
 use denote.Ref.{Bor}
 use Rattle.std.specs.List.{list_all, list_any}
-use Rattle.serde_json.specs.Data.{Data, null, object, Members, no_members, member}
-use Rattle.serde_json.specs.Find.{get, as_object}
+use Rattle.serde_json.specs.Data.{Data, null, string, object, Members, no_members, member}
+use Rattle.serde_json.specs.Find.{get, as_object, as_str}
+use Rattle.json_fields.specs.Lists.{list_in}
 
 -- the texts that a slice of `&str` holds
 abbrev pub texts : List (Bor (List ℕ)) → List (List ℕ)
@@ -33,6 +34,13 @@ has_keys required optional d = has_each required d && has_only (λ key. is_among
 abbrev pub has_exactly : List (List ℕ) → Data → Bool
 has_exactly keys d = has_keys keys [] d
 
+-- the text, and the list, at a key
+abbrev pub text_at : List ℕ → Data → Option (List ℕ)
+text_at key d = option_and_then as_str (get key d)
+
+abbrev pub list_at : List ℕ → Data → Option (List Data)
+list_at key d = option_and_then list_in (get key d)
+
 -- a sixth key, a missing key and a list are refused
 from_and_to : List (List ℕ)
 from_and_to = codes "from" ∷ codes "to" ∷ []
@@ -52,3 +60,9 @@ one_less = refl
 one_optional : has_keys from_and_to (codes "at" ∷ []) (object (member (codes "at") null (member (codes "from") null (member (codes "to") null no_members)))) ≡ true
 unfolding from_and_to
 one_optional = refl
+
+text_at_from : text_at (codes "from") (object (member (codes "from") (string (codes "a")) no_members)) ≡ Some (codes "a")
+text_at_from = refl
+
+no_text_at_to : text_at (codes "to") (object (member (codes "from") (string (codes "a")) no_members)) ≡ None
+no_text_at_to = refl

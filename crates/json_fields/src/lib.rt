@@ -17,7 +17,7 @@ pub use files::read_file;
 pub use lists::{list_in, list_of, list_up_to};
 pub use members::{Format, each};
 pub use numbers::{address_in, digits_below, digits_in, whole_in};
-pub use objects::{has_exactly, has_keys};
+pub use objects::{has_exactly, has_keys, list_at, text_at};
 
 #[cfg(test)]
 mod tests;

@@ -1,13 +1,28 @@
-//! The keys of a JSON object.
+//! The keys of a JSON object, and what stands at them.
 
-ghost use Rattle.std.specs.Prelude.{◌≡◌, ◌||◌, bytes_eq, string_bytes, is_some};
+ghost use Rattle.std.specs.Prelude.{◌≡◌, ◌||◌, bytes_eq, map, option_map, string_bytes, is_some};
 ghost use Rattle.std.specs.BTreeMap.{keys};
 ghost use Rattle.std.specs.List.{list_all, list_any};
 ghost use Rattle.serde_json.specs.Find.{get};
 ghost use Rattle.serde_json.specs.View.{view};
 ghost use Rattle.json_fields.specs.Objects as words;
 
+use crate::lists::list_in;
 use serde_json::{Map, Value};
+
+/// The text at a key of a value that is an object.
+pub fn text_at<'v>(value: &'v Value, key: &str) -> Option<&'v str>
+    ensures { option_map (λ t. t.now) result ≡ words.text_at key.now (view value.now) }
+{
+    value.get(key)?.as_str()
+}
+
+/// The members of the list at a key of a value that is an object.
+pub fn list_at<'v>(value: &'v Value, key: &str) -> Option<&'v [Value]>
+    ensures { option_map (λ vs. map view vs.now) result ≡ words.list_at key.now (view value.now) }
+{
+    list_in(value.get(key)?)
+}
 
 /// Whether a value is an object with exactly these keys.
 pub fn has_exactly(value: &Value, keys: &[&str]) -> bool

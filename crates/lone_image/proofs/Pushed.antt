@@ -1,5 +1,6 @@
 -- The lone rows, pushed one after another.
 use Rattle.std.proofs.Common.{◌≡◌, ℕ, zero, suc, ◌+◌, ◌-◌, List, [], ◌∷◌, ◌++◌, map, length, replicate, ℤ, pos, refl, ap, sym, ◌∙◌, append_assoc, arith}
+use Rattle.std.proofs.lemmas.List.FromFn.{length-range_with_len}
 use Rattle.std.specs.List.{range_with_len, All}
 use Rattle.std.proofs.lemmas.List.{length-append, length-replicate, length-map, map-append, append-nil}
 use Rattle.std.proofs.lemmas.List.Elements.{All-cons, All-append, All-replicate}
@@ -49,15 +50,11 @@ zeros : (others : List (List Term)) → map (λ _. pos 0) others ≡ replicate (
 zeros [] = refl
 zeros (terms ∷ others) = ap (λ (xs : List ℤ). pos 0 ∷ xs) (zeros others)
 
-length-range : (a n : ℕ) → length (range_with_len a n) ≡ n
-length-range a zero = refl
-length-range a (suc n) = omega (arith, length-range (a + 1) n)
-
 pub length-lone_terms : (count : ℕ) → length (lone_terms count) ≡ count + 8
-length-lone_terms count = simp (length-append, length-map) (omega (arith, length-range 0 (count + 1)))
+length-lone_terms count = simp (length-append, length-map) (omega (arith, length-range_with_len 0 (count + 1)))
 
 pub length-row_of_terms : (columns : ℕ) (terms : List Term) → length (row_of_terms columns terms) ≡ columns
-length-row_of_terms columns terms = simp length-map (length-range 0 columns)
+length-row_of_terms columns terms = simp length-map (length-range_with_len 0 columns)
 
 -- the terms behind those on the start
 behind_start : ℕ → ℕ → ℕ → ℕ → List (List Term)

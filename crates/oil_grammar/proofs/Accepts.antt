@@ -31,9 +31,6 @@ adding-twice object xs ys = ap (λ zs. record { kind = object.kind; name = objec
 
 -- Words.
 
-same_bytes : (xs : List ℕ) → bytes_eq xs xs ≡ true
-same_bytes xs = (bytes_eq-Decides xs xs).1 refl
-
 other_bytes : (xs ys : List ℕ) → xs ≢ ys → bytes_eq xs ys ≡ false
 other_bytes xs ys ne = false_from_ne_true (bytes_eq xs ys) (λ is. ne ((bytes_eq-Decides xs ys).0 is))
 

@@ -1,5 +1,5 @@
 -- The layout of a well-formed tree has the tree.
-use Rattle.std.proofs.Common.{◌≡◌, ℕ, zero, suc, ◌+◌, ◌*◌, Bool, true, false, List, [], ◌∷◌, ◌++◌, refl, sym, ap, ◌∙◌, subst, append_assoc}
+use Rattle.std.proofs.Common.{◌≡◌, ℕ, zero, suc, ◌+◌, ◌*◌, Bool, true, false, List, [], ◌∷◌, ◌++◌, refl, sym, ap, ◌∙◌, subst, append_assoc, rules}
 use Rattle.std.proofs.lemmas.List.{append-nil}
 use Rattle.std.specs.Prelude.{codes, replicate}
 use Rattle.oil_grammar.specs.Bytes.{is_name_byte, is_numeral_byte}
@@ -9,7 +9,6 @@ use Rattle.oil_grammar.specs.Layout.{margin, quoted_layout, value_layout, line_e
 use Rattle.oil_grammar.specs.declared.token.Token.{Token}
 use Rattle.oil_grammar.specs.declared.token.Token.TheVariants as token
 use Rattle.oil_grammar.specs.declared.tree.Value.{Value}
-use Rattle.oil_grammar.specs.declared.tree.Value.TheVariants as value
 use Rattle.oil_grammar.specs.declared.tree.Tree.{Tree}
 use Rattle.oil_grammar.proofs.Proper.{Every, is_text_byte, IsName, IsProper, text_tokens_proper}
 use Rattle.oil_grammar.proofs.Spelled.{first_name, first_equals, first_semicolon, first_open, first_close, first_text, first_value, first_behind_space, first_behind_newline}
@@ -72,12 +71,7 @@ assignment level n v c tokens rest is proper outside number_ends name_ends are =
     (equals (value_token v ∷ tokens) (32 ∷ spelled) (space (value_token v ∷ tokens) spelled with_value))))
 
 value_outside : (v : Value) → is_skipped (value_token v) ≡ false
-value_outside (value.Name n) = refl
-value_outside (value.Number negative size) = refl
-value_outside (value.Text text) = refl
-value_outside (value.Bool true) = refl
-value_outside (value.Bool false) = refl
-value_outside value.Auto = refl
+value_outside v = search rules
 
 plain_line : (level : ℕ) (n : List ℕ) (v : Value) (tokens : List Token) (rest : List ℕ) → IsName n → IsProper (value_token v) → AreTokensOf tokens rest → AreTokensOf (token.Name n ∷ (token.Equals ∷ (value_token v ∷ (token.Semicolon ∷ tokens)))) (line_of level n v false ++ rest)
 plain_line level n v tokens rest is proper are =

@@ -1,16 +1,14 @@
 -- A token counts at most one brace of the skipped part.
-use Rattle.std.proofs.Common.{◌≡◌, ℕ, zero, suc, ◌+◌, ◌≤◌, Bool, true, false, cond, List, subst, Some, None, Option, arith}
+use Rattle.std.proofs.Common.{◌≡◌, ℕ, zero, suc, ◌+◌, ◌≤◌, Bool, true, false, cond, List, subst, Some, None, Option, arith, rules}
 use Rattle.std.specs.Prelude.{codes, nat_lt}
 use Rattle.std.specs.Str.{bytes_eq}
 use Rattle.oil_grammar.specs.Working.States.{around, when, object_with, after_part, after_skipped, block_end, word_value, after_value, next}
 use Rattle.oil_grammar.specs.declared.token.Token.{Token}
 use Rattle.oil_grammar.specs.declared.token.Token.TheVariants as token
 use Rattle.oil_grammar.specs.declared.tree.Value.{Value}
-use Rattle.oil_grammar.specs.declared.tree.Value.TheVariants as value
 use Rattle.oil_grammar.specs.declared.tree.Object.{Object}
 use Rattle.oil_grammar.specs.declared.tree.Tree.{Tree}
 use Rattle.oil_grammar.specs.declared.state.Part.{Part}
-use Rattle.oil_grammar.specs.declared.state.Part.TheVariants as part
 use Rattle.oil_grammar.specs.declared.state.State.{State}
 use Rattle.oil_grammar.specs.declared.state.State.TheVariants.{Start, VersionEquals, VersionText, Ending, Describing, Described, Head, ImplementationName, ImplementationBlock, Skipping, CpuWord, CpuName, CpuBlock, Objects, ObjectName, ObjectBlock, Attributes, AttributeEquals, AttributeValue, AttributeBlock}
 use Rattle.std.specs.Prelude.{IfSome}
@@ -26,11 +24,7 @@ head_depth false true version n = omega arith
 head_depth false false version n = tt
 
 part_depth : (p : Part) (n : ℕ) → depth_of (after_part p) ≤ n
-part_depth (part.Version version) n = omega arith
-part_depth (part.Implementation version) n = omega arith
-part_depth (part.Attribute a) n = omega arith
-part_depth (part.Object tree object) n = omega arith
-part_depth (part.Cpu tree) n = omega arith
+part_depth p n = search rules
 
 block_depth : (tree : Tree) (object : Object) (level n : ℕ) → depth_of (block_end tree object level) ≤ n
 block_depth tree object zero n = omega arith
@@ -38,11 +32,7 @@ block_depth tree object (suc zero) n = omega arith
 block_depth tree object (suc (suc level)) n = omega arith
 
 value_depth : (tree : Tree) (object : Object) (level : ℕ) (name : List ℕ) (v : Value) (n : ℕ) → depth_of (after_value (around tree object level) name v) ≤ n
-value_depth tree object level name (value.Name word) n = omega arith
-value_depth tree object level name (value.Number negative size) n = omega arith
-value_depth tree object level name (value.Text text) n = omega arith
-value_depth tree object level name (value.Bool b) n = omega arith
-value_depth tree object level name value.Auto n = omega arith
+value_depth tree object level name v n = search rules
 
 skipped_depth : (version : List ℕ) (depth : ℕ) → depth_of (after_skipped version depth) ≤ depth + 1
 skipped_depth version zero = omega arith

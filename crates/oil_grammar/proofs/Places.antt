@@ -117,10 +117,6 @@ fits_next limit _ token.Colon one fits = tt
 fits_next limit _ token.SkippedOpen one fits = tt
 fits_next limit _ token.SkippedClose one fits = tt
 
-some_fits : (limit : ℕ) (o : Option State) (after : State) → o ≡ Some after → IfSome o (StateFits limit) → StateFits limit after
-some_fits limit None after is fits = absurd (cc)
-some_fits limit (Some s) after is fits = let same : s ≡ after = cc in subst (λ r. StateFits limit r) same fits
-
 fits_after : (limit : ℕ) (after : State) (tokens : List Token) (o : Option State) → ((s : State) → StateFits limit s → run limit s tokens ≡ Some after → StateFits limit after) → option_and_then (λ s. run limit s tokens) o ≡ Some after → IfSome o (StateFits limit) → StateFits limit after
 fits_after limit after tokens None recur is fits = absurd (cc)
 fits_after limit after tokens (Some s) recur is fits = recur s fits is

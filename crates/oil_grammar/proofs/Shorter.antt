@@ -1,5 +1,6 @@
 -- What is left behind a token is shorter than what it was read from.
 use Rattle.std.proofs.Common.{◌≡◌, ℕ, suc, ◌+◌, ◌≤◌, ◌<◌, Bool, true, false, cond, ◌||◌, List, [], ◌∷◌, length, take, drop, refl, sym, subst, Some, None, Option, Ok, Err, Result, arith, length-drop}
+use Rattle.std.proofs.lemmas.Bool.{or_left, or_right}
 use Rattle.std.specs.Prelude.{IfOk, if◌then◌else◌, ◌==◌, position}
 use Rattle.std.specs.List.{prefix_len}
 use Rattle.oil_grammar.specs.declared.fault.OilKind.{OilKind}
@@ -52,10 +53,6 @@ drop_some p b rest is = subst (λ t. length (drop (cond t (1 + prefix_len p rest
 name_shorter : (b : ℕ) (rest : List ℕ) → is_letter b ≡ true → LeavesUpTo (length rest) (name_at (b ∷ rest))
 unfolding LeavesUpTo
 name_shorter b rest is = drop_some is_name_byte b rest (or_left (is_letter b) (is_digit b) is)
-  where
-    or_left : (x y : Bool) → x ≡ true → (x || y) ≡ true
-    or_left true y h = refl
-    or_left false y h = absurd (cc)
 
 given_shorter : (negative : Bool) (after : List ℕ) (o : Option ℕ) (n : ℕ) → length after ≤ n → LeavesUpTo n (number_given negative after o)
 unfolding LeavesUpTo
@@ -63,12 +60,7 @@ given_shorter negative after None n le = tt
 given_shorter negative after (Some size) n le = le
 
 pub digit_is_numeral : (b : ℕ) → is_digit b ≡ true → is_numeral_byte b ≡ true
-digit_is_numeral b is = any (is_letter b) (is_digit b) (b == 46) is
-  where
-    any : (x y z : Bool) → y ≡ true → ((x || y) || z) ≡ true
-    any true y z h = refl
-    any false true z h = refl
-    any false false z h = absurd (cc)
+digit_is_numeral b is = or_left (is_letter b || is_digit b) (b == 46) (or_right (is_letter b) (is_digit b) is)
 
 digits_shorter : (b : ℕ) (rest : List ℕ) → is_digit b ≡ true → LeavesUpTo (length rest) (number_at false (b ∷ rest))
 digits_shorter b rest is = given_shorter false _ (numeral (take (prefix_len is_numeral_byte (b ∷ rest)) (b ∷ rest))) (length rest) (drop_some is_numeral_byte b rest (digit_is_numeral b is))

@@ -1,9 +1,8 @@
 -- A text has at most one tree, and none where something is in the way of its states.
-use Rattle.std.proofs.Common.{◌≡◌, ℕ, false, List, [], ◌∷◌, ◌++◌, length, refl, sym, ap, ◌∙◌, subst, Some, None, Option}
+use Rattle.std.proofs.Common.{◌≡◌, ℕ, false, List, [], ◌∷◌, ◌++◌, length, refl, sym, ap, ◌∙◌, subst, Some, None, Option, rules}
 use Rattle.oil_grammar.specs.Grammar.{file_tokens, tree_of}
 use Rattle.oil_grammar.specs.Working.States.{next, run, is_skipping}
 use Rattle.oil_grammar.specs.declared.token.Token.{Token}
-use Rattle.oil_grammar.specs.declared.token.Token.TheVariants as token
 use Rattle.oil_grammar.specs.declared.tree.Tree.{Tree}
 use Rattle.oil_grammar.specs.declared.state.State.{State}
 use Rattle.oil_grammar.specs.declared.state.State.TheVariants.{Start, Finished}
@@ -27,16 +26,7 @@ token_inj same = (cc, cc)
 
 pub next_finished : (limit : ℕ) (tree : Tree) (t : Token) → next limit (Finished tree) t ≡ None
 unfolding next
-next_finished limit tree (token.Name name) = refl
-next_finished limit tree (token.Number negative size) = refl
-next_finished limit tree (token.Text text) = refl
-next_finished limit tree token.Open = refl
-next_finished limit tree token.Close = refl
-next_finished limit tree token.Equals = refl
-next_finished limit tree token.Semicolon = refl
-next_finished limit tree token.Colon = refl
-next_finished limit tree token.SkippedOpen = refl
-next_finished limit tree token.SkippedClose = refl
+next_finished limit tree t = search rules
 
 record Longer (xs ys : List Token) (left end : List ℕ) : Type 0 where
   more : List Token

@@ -92,26 +92,3 @@ CPU C {
     assert_eq!(rt; written(alloc, text)?.as_slice(), expected.as_bytes());
     Ok(())
 }
-
-#[test]
-fn numbers_are_written_in_decimal_and_keep_their_signs(rt: HostRuntime) -> Result<(), Fail> {
-    let alloc = rt.alloc();
-    let text =
-        b"OIL_VERSION=\"\"; CPU C { A B { P = 0xfF; Q = -7; R = +007; S = -0; T = -0X10; U = X { V = 18446744073709551615; }; }; };";
-    let expected = "OIL_VERSION = \"\";
-CPU C {
-  A B {
-    P = 255;
-    Q = -7;
-    R = 7;
-    S = -0;
-    T = -16;
-    U = X {
-      V = 18446744073709551615;
-    };
-  };
-};
-";
-    assert_eq!(rt; written(alloc, text)?.as_slice(), expected.as_bytes());
-    Ok(())
-}

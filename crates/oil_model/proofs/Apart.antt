@@ -6,7 +6,7 @@ use Rattle.std.proofs.lemmas.Bool.{or_parts, or_from, and_parts, and_from, not-t
 use Rattle.std.proofs.lemmas.List.Folds.{list_any-append}
 use Rattle.std.proofs.lemmas.Slice.Eq.{bytes_eq-Decides}
 use Rattle.oil_grammar.specs.declared.tree.Object.{Object}
-use Rattle.oil_model.specs.System.{differ}
+use Rattle.listed.specs.Lists.{differ}
 use Rattle.oil_model.specs.References.{is_kind, of_kind}
 use Rattle.oil_model.specs.Rules.{name_set, clashes}
 

@@ -12,7 +12,8 @@ use Rattle.oil_grammar.specs.declared.tree.Attribute.{Attribute}
 use Rattle.oil_grammar.specs.declared.tree.Object.{Object}
 use Rattle.oil_grammar.specs.declared.tree.Tree.{Tree}
 use Rattle.oil_model.specs.declared.system.System.{System}
-use Rattle.oil_model.specs.System.{differ, code_names, AreBelow, AreFew, IsTask, IsAlarm, AreNames, AreApart, IsLawful}
+use Rattle.listed.specs.Lists.{differ}
+use Rattle.oil_model.specs.System.{code_names, AreBelow, AreFew, IsTask, IsAlarm, AreNames, AreApart, IsLawful}
 use Rattle.oil_model.specs.References.{is_kind, of_kind, top_priority, ids_of}
 use Rattle.oil_model.specs.declared.reference.Target.TheVariants.{Mode, Shared}
 use Rattle.oil_model.specs.Rules.{attributes_fault}

@@ -7,7 +7,7 @@ use Rattle.std.proofs.lemmas.List.{map-append}
 use Rattle.std.proofs.lemmas.List.Elements.{filter-append}
 use Rattle.std.proofs.lemmas.List.Folds.{list_any-append}
 use Rattle.oil_grammar.specs.declared.tree.Object.{Object}
-use Rattle.oil_model.specs.System.{differ}
+use Rattle.listed.specs.Lists.{differ}
 use Rattle.oil_model.specs.References.{is_kind, of_kind, priority_of}
 use Rattle.oil_model.specs.Rules.{name_set, clashes, shares_priority}
 use Rattle.oil_model.proofs.Apart.{differ-insert, differ-push, same_names, all_other_way, names_of, unnamed}

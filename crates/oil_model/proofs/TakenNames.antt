@@ -14,7 +14,7 @@ use Rattle.std.proofs.lemmas.Map.Text.{is_eq-slice_cmp}
 use Rattle.std.proofs.lemmas.Slice.Eq.{bytes_eq-Decides}
 use Rattle.oil_grammar.specs.declared.tree.Object.{Object}
 use Rattle.oil_model.specs.Rules.{name_set}
-use Rattle.oil_model.specs.Working.Taken.{Key, key_cmp, has_key, Knows, Takes}
+use Rattle.oil_model.specs.Working.Taken.{Key, key_cmp, has_key, Takes}
 
 flip_at : (xs ys : List ℕ) (test : Bool) → bytes_eq xs ys ≡ test → bytes_eq ys xs ≡ test
 flip_at xs ys true is = (bytes_eq-Decides ys xs).1 (sym ((bytes_eq-Decides xs ys).0 is))
@@ -53,7 +53,3 @@ taken_once_more old new k o added kind name is updates = λ earlier knows. recor
     same = λ q. updates q ∙ (rw (same_key k q, kind, name, knows.same q) (last_test (has_key q o) (list_any (has_key q) earlier)) ∙ sym (list_any-append (has_key q) earlier (o ∷ [])));
   };
 }
-
--- no name is taken yet
-pub none_taken : (taken : BTreeSet Key) → taken.keys ≡ [] → Knows taken []
-none_taken taken is = record { same = λ k. ap (list_any (is_at (key_cmp k))) is }

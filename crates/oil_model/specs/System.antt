@@ -1,16 +1,12 @@
 -- Which systems are lawful.
-use Rattle.std.specs.Prelude.{◌≡◌, ℕ, ◌<◌, ◌≤◌, Bool, true, false, not, ◌&&◌, ◌==◌, List, [], ◌∷◌, ◌++◌, length, map, codes, bytes_eq}
-use Rattle.std.specs.List.{list_any, list_all, AllByRecursion}
+use Rattle.std.specs.Prelude.{◌≡◌, ℕ, ◌<◌, ◌≤◌, true, false, ◌==◌, List, [], ◌∷◌, ◌++◌, length, map, codes, bytes_eq}
+use Rattle.std.specs.List.{list_all, AllByRecursion}
+use Rattle.listed.specs.Lists.{differ}
 use Rattle.oil_grammar.specs.Names.{is_name}
 use Rattle.oil_model.specs.declared.system.Task.{Task}
 use Rattle.oil_model.specs.declared.system.Resource.{Resource}
 use Rattle.oil_model.specs.declared.system.Alarm.{Alarm}
 use Rattle.oil_model.specs.declared.system.System.{System}
-
--- no member is the same as a later one
-abbrev pub differ : {A : Type 0} → (A → A → Bool) → List A → Bool
-differ same [] = true
-differ same (x ∷ xs) = not (list_any (same x) xs) && differ same xs
 
 abbrev pub scheduler : List ℕ
 scheduler = codes "RES_SCHEDULER"

@@ -1,6 +1,6 @@
 -- The operations and their functs: each is found by its own, and what is found has them.
-use Rattle.std.proofs.Common.{◌≡◌, ℕ, ◌<◌, Bool, true, List, [], ◌∷◌, Option, Some, None, find, refl, lit<, IfSome, arith, unwrap_or}
-use Rattle.std.proofs.lemmas.Bool.{cond_both, eqb-true}
+use Rattle.std.proofs.Common.{◌≡◌, ℕ, ◌<◌, Bool, true, List, [], ◌∷◌, Option, Some, None, find, IfSome, refl, unwrap_or, rules}
+use Rattle.std.proofs.lemmas.Bool.{cond_both, eqb-true, and_parts}
 use Rattle.std.proofs.lemmas.Option.{IfSome_then}
 use Rattle.std.specs.Prelude.{◌==◌, ◌&&◌}
 use Rattle.rv32_decode.specs.declared.instruction.BranchOp.{BranchOp}
@@ -23,60 +23,24 @@ find_passes test (x ∷ xs) =
 
 pub branch_again : (op : BranchOp) → branch_of (branch_funct3 op) ≡ Some op
 unfolding branch_of
-branch_again Beq = refl
-branch_again Bne = refl
-branch_again Blt = refl
-branch_again Bge = refl
-branch_again Bltu = refl
-branch_again Bgeu = refl
+branch_again op = search rules
 
 pub load_again : (op : LoadOp) → load_of (load_funct3 op) ≡ Some op
 unfolding load_of
-load_again Lb = refl
-load_again Lh = refl
-load_again Lw = refl
-load_again Lbu = refl
-load_again Lhu = refl
+load_again op = search rules
 
 pub save_again : (op : SaveOp) → save_of (save_funct3 op) ≡ Some op
 unfolding save_of
-save_again Sb = refl
-save_again Sh = refl
-save_again Sw = refl
+save_again op = search rules
 
 pub reg_again : (op : RegOp) → reg_of (reg_functs op).0 (reg_functs op).1 ≡ Some op
 unfolding reg_of
-reg_again reg.Add = refl
-reg_again reg.Sub = refl
-reg_again reg.Sll = refl
-reg_again reg.Slt = refl
-reg_again reg.Sltu = refl
-reg_again reg.Xor = refl
-reg_again reg.Srl = refl
-reg_again reg.Sra = refl
-reg_again reg.Or = refl
-reg_again reg.And = refl
-reg_again reg.Mul = refl
-reg_again reg.Mulh = refl
-reg_again reg.Mulhsu = refl
-reg_again reg.Mulhu = refl
-reg_again reg.Div = refl
-reg_again reg.Divu = refl
-reg_again reg.Rem = refl
-reg_again reg.Remu = refl
+reg_again op = search rules
 
 -- the shifts fix funct7, and the other operations take any
 pub imm_again : (op : ImmOp) (funct7 : ℕ) → imm_of (unwrap_or (shift_funct7 op) funct7) (imm_funct3 op) ≡ Some op
 unfolding imm_of
-imm_again Addi funct7 = refl
-imm_again Slti funct7 = refl
-imm_again Sltiu funct7 = refl
-imm_again Xori funct7 = refl
-imm_again Ori funct7 = refl
-imm_again Andi funct7 = refl
-imm_again Slli funct7 = refl
-imm_again Srli funct7 = refl
-imm_again Srai funct7 = refl
+imm_again op funct7 = search rules
 
 pub branch_found : (funct3 : ℕ) → IfSome (branch_of funct3) (λ op. branch_funct3 op ≡ funct3)
 unfolding branch_of
@@ -102,14 +66,11 @@ save_found funct3 =
     (find_passes (λ op. save_funct3 op == funct3) (Sb ∷ Sh ∷ Sw ∷ []))
     (λ op. eqb-true (save_funct3 op) funct3)
 
-both_true : (a b : Bool) → (a && b) ≡ true → (a ≡ true) × (b ≡ true)
-both_true a b h = (grind arith, grind arith)
-
 functs_same : (fixed : Option ℕ) (f3 funct7 funct3 : ℕ) → has_functs fixed f3 funct7 funct3 ≡ true
     → (f3 ≡ funct3) × (unwrap_or fixed funct7 ≡ funct7)
 functs_same None f3 funct7 funct3 h = (eqb-true f3 funct3 h, refl)
 functs_same (Some f7) f3 funct7 funct3 h =
-    let both = both_true (f3 == funct3) (f7 == funct7) h in (eqb-true f3 funct3 both.0, eqb-true f7 funct7 both.1)
+    let both = and_parts (f3 == funct3) (f7 == funct7) h in (eqb-true f3 funct3 both.0, eqb-true f7 funct7 both.1)
 
 pub imm_found : (funct7 funct3 : ℕ) → IfSome (imm_of funct7 funct3) (λ op. (imm_funct3 op ≡ funct3) × (unwrap_or (shift_funct7 op) funct7 ≡ funct7))
 unfolding imm_of
@@ -131,69 +92,25 @@ reg_found funct7 funct3 =
     (reg.Add ∷ reg.Sub ∷ reg.Sll ∷ reg.Slt ∷ reg.Sltu ∷ reg.Xor ∷ reg.Srl ∷ reg.Sra ∷ reg.Or ∷ reg.And ∷ reg.Mul
     ∷ reg.Mulh ∷ reg.Mulhsu ∷ reg.Mulhu ∷ reg.Div ∷ reg.Divu ∷ reg.Rem ∷ reg.Remu ∷ []))
     (λ op h.
-    let both = both_true ((reg_functs op).0 == funct7) ((reg_functs op).1 == funct3) h in
+    let both = and_parts ((reg_functs op).0 == funct7) ((reg_functs op).1 == funct3) h in
     (eqb-true (reg_functs op).0 funct7 both.0, eqb-true (reg_functs op).1 funct3 both.1))
 
 -- ---- They fit their fields
 
 pub branch_below : (op : BranchOp) → branch_funct3 op < 8
-branch_below Beq = lit< tt
-branch_below Bne = lit< tt
-branch_below Blt = lit< tt
-branch_below Bge = lit< tt
-branch_below Bltu = lit< tt
-branch_below Bgeu = lit< tt
+branch_below op = search rules
 
 pub load_below : (op : LoadOp) → load_funct3 op < 8
-load_below Lb = lit< tt
-load_below Lh = lit< tt
-load_below Lw = lit< tt
-load_below Lbu = lit< tt
-load_below Lhu = lit< tt
+load_below op = search rules
 
 pub save_below : (op : SaveOp) → save_funct3 op < 8
-save_below Sb = lit< tt
-save_below Sh = lit< tt
-save_below Sw = lit< tt
+save_below op = search rules
 
 pub imm_below : (op : ImmOp) → imm_funct3 op < 8
-imm_below Addi = lit< tt
-imm_below Slti = lit< tt
-imm_below Sltiu = lit< tt
-imm_below Xori = lit< tt
-imm_below Ori = lit< tt
-imm_below Andi = lit< tt
-imm_below Slli = lit< tt
-imm_below Srli = lit< tt
-imm_below Srai = lit< tt
+imm_below op = search rules
 
 pub shift_below : (op : ImmOp) → unwrap_or (shift_funct7 op) 0 < 128
-shift_below Addi = lit< tt
-shift_below Slti = lit< tt
-shift_below Sltiu = lit< tt
-shift_below Xori = lit< tt
-shift_below Ori = lit< tt
-shift_below Andi = lit< tt
-shift_below Slli = lit< tt
-shift_below Srli = lit< tt
-shift_below Srai = lit< tt
+shift_below op = search rules
 
 pub reg_below : (op : RegOp) → ((reg_functs op).0 < 128) × ((reg_functs op).1 < 8)
-reg_below reg.Add = (lit< tt, lit< tt)
-reg_below reg.Sub = (lit< tt, lit< tt)
-reg_below reg.Sll = (lit< tt, lit< tt)
-reg_below reg.Slt = (lit< tt, lit< tt)
-reg_below reg.Sltu = (lit< tt, lit< tt)
-reg_below reg.Xor = (lit< tt, lit< tt)
-reg_below reg.Srl = (lit< tt, lit< tt)
-reg_below reg.Sra = (lit< tt, lit< tt)
-reg_below reg.Or = (lit< tt, lit< tt)
-reg_below reg.And = (lit< tt, lit< tt)
-reg_below reg.Mul = (lit< tt, lit< tt)
-reg_below reg.Mulh = (lit< tt, lit< tt)
-reg_below reg.Mulhsu = (lit< tt, lit< tt)
-reg_below reg.Mulhu = (lit< tt, lit< tt)
-reg_below reg.Div = (lit< tt, lit< tt)
-reg_below reg.Divu = (lit< tt, lit< tt)
-reg_below reg.Rem = (lit< tt, lit< tt)
-reg_below reg.Remu = (lit< tt, lit< tt)
+reg_below op = search rules

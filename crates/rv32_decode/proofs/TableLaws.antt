@@ -308,9 +308,6 @@ insn_read Ebreak h = refl
 pub insn_only : (w : ℕ) (insn : Insn) → IsWordOf w insn → insn_of_word w ≡ Some insn
 insn_only w insn h = ap insn_of_word h.spelled ∙ insn_read insn h.fits
 
-pub insn_none : (w : ℕ) → insn_of_word w ≡ None → (insn : Insn) → IsWordOf w insn → ⊥
-insn_none w none insn h = let only = insn_only w insn h in cc
-
 -- ---- The registers of an instruction that a word of any size gives
 
 either_fits : (b : Bool) (x y : Option Insn) → IfSome x RegistersFit → IfSome y RegistersFit → IfSome (cond b x y) RegistersFit

@@ -1,6 +1,8 @@
 -- The greatest cost of a step is small: the extra cycles of an address are at most 256 times 1,048,576.
-use Rattle.std.proofs.Common.{◌≡◌, ℕ, ◌*◌, ◌^◌, ◌<◌, ◌≤◌, Bool, true, false, cond, List, [], ◌∷◌, length, Option, Some, None, get_or, sym, ap, subst, arith}
-use Rattle.std.specs.Prelude.{nat_le, ◌&&◌, All, slice_index}
+use Rattle.std.proofs.Common.{ℕ, ◌*◌, ◌^◌, ◌≤◌, Bool, true, false, cond, List, [], ◌∷◌, length, Option, Some, None, arith, inl, inr}
+use Rattle.std.proofs.lemmas.Bool.{cases_lt}
+use Rattle.std.proofs.lemmas.List.{get_or_past}
+use Rattle.std.specs.Prelude.{slice_index}
 use Rattle.std.specs.List.{AllByRecursion}
 use Rattle.std.specs.Option.{option_map_or}
 use Rattle.std.proofs.lemmas.List.Sums.{sum_by-cons}
@@ -8,13 +10,12 @@ use Rattle.std.proofs.lemmas.List.Elements.{recursion_from_All}
 use Rattle.rv32_decode.specs.declared.instruction.Class.{Class}
 use Rattle.rv32_decode.specs.declared.instruction.Class.TheVariants as classes
 use Rattle.osek_kernel.specs.declared.service.Service.{Service}
-use Rattle.osek_kernel.specs.declared.service.Service.TheVariants as services
 use Rattle.timing_file.specs.declared.costs.ClassCosts.{ClassCosts}
 use Rattle.timing_file.specs.declared.costs.ServiceCosts.{ServiceCosts}
 use Rattle.timing_file.specs.declared.timing.Extra.{Extra}
 use Rattle.timing_file.specs.declared.timing.Timing.{Timing}
 use Rattle.timing_file.specs.Costs.{class_cost, cost_of_class, cost_of_service, place_of_class, place_of_service, lies_in, extra_of, extra_at}
-use Rattle.timing_file.specs.Lawful.{IsExtra, IsCost, AreCosts, AreExtras, IsLawful}
+use Rattle.timing_file.specs.Lawful.{IsExtra, AreCosts, AreExtras, IsLawful}
 
 either_le : (test : Bool) (x y most : ℕ) → x ≤ most → y ≤ most → cond test x y ≤ most
 either_le true x y most a b = a
@@ -37,19 +38,19 @@ extra_at-small extras address are =
     omega (arith, few, sum)
 
 -- a cost of a table, and 0 past its end
-cost_in-le : (n : ℕ) (costs : List ℕ) (place : ℕ) → AreCosts n costs → place < n → slice_index costs place ≤ 2 ^ 20
-cost_in-le n costs place are inside = (are.each place 0 (subst (λ m. place < m) (sym are.count) inside)).1
+cost_in-le : (n : ℕ) (costs : List ℕ) (place : ℕ) → AreCosts n costs → slice_index costs place ≤ 2 ^ 20
+cost_in-le n costs place are =
+    elim (cases_lt place (length costs)) [
+      | inl inside ↦ (are.each place 0 inside).1
+      | inr past ↦ rw (get_or_past costs place 0 past) (omega arith)
+    ]
 
 class_cost-le : (costs : ClassCosts) (class : Class) → AreCosts 8 costs.costs → class_cost costs class ≤ 2 ^ 20
-class_cost-le costs classes.Alu are = cost_in-le 8 costs.costs 0 are (omega arith)
-class_cost-le costs classes.Mul are = cost_in-le 8 costs.costs 1 are (omega arith)
-class_cost-le costs classes.Div are = cost_in-le 8 costs.costs 2 are (omega arith)
-class_cost-le costs classes.Load are = cost_in-le 8 costs.costs 3 are (omega arith)
-class_cost-le costs classes.Store are = cost_in-le 8 costs.costs 4 are (omega arith)
-class_cost-le costs classes.Branch are = cost_in-le 8 costs.costs 5 are (omega arith)
-class_cost-le costs classes.Jump are = cost_in-le 8 costs.costs 6 are (omega arith)
-class_cost-le costs classes.Fence are = cost_in-le 8 costs.costs 7 are (omega arith)
-class_cost-le costs classes.System are = omega arith
+class_cost-le costs class are = at (place_of_class class)
+  where
+    at : (place : Option ℕ) → option_map_or (slice_index costs.costs) place 0 ≤ 2 ^ 20
+    at None = omega arith
+    at (Some place) = cost_in-le 8 costs.costs place are
 
 pub cost_of_class-le : (timing : Timing) (class : Class) (taken : Bool) → IsLawful timing → cost_of_class timing class taken ≤ 2 ^ 20
 cost_of_class-le timing classes.Branch true lawful = lawful.taken.1
@@ -63,20 +64,5 @@ cost_of_class-le timing classes.Jump taken lawful = class_cost-le timing.classes
 cost_of_class-le timing classes.Fence taken lawful = class_cost-le timing.classes classes.Fence lawful.classes
 cost_of_class-le timing classes.System taken lawful = class_cost-le timing.classes classes.System lawful.classes
 
-pub cost_of_service-le : (costs : ServiceCosts) (service : Service) → AreCosts 13 costs.costs → place_of_service service < 13 → cost_of_service costs service ≤ 2 ^ 20
-cost_of_service-le costs service are inside = cost_in-le 13 costs.costs (place_of_service service) are inside
-
-pub place_inside : (service : Service) → place_of_service service < 13
-place_inside services.ActivateTask = omega arith
-place_inside services.TerminateTask = omega arith
-place_inside services.ChainTask = omega arith
-place_inside services.GetResource = omega arith
-place_inside services.ReleaseResource = omega arith
-place_inside services.DisableAllInterrupts = omega arith
-place_inside services.EnableAllInterrupts = omega arith
-place_inside services.SuspendAllInterrupts = omega arith
-place_inside services.ResumeAllInterrupts = omega arith
-place_inside services.SuspendOSInterrupts = omega arith
-place_inside services.ResumeOSInterrupts = omega arith
-place_inside services.Schedule = omega arith
-place_inside services.EndIsr = omega arith
+pub cost_of_service-le : (costs : ServiceCosts) (service : Service) → AreCosts 13 costs.costs → cost_of_service costs service ≤ 2 ^ 20
+cost_of_service-le costs service are = cost_in-le 13 costs.costs (place_of_service service) are

@@ -1,7 +1,7 @@
 -- A timing whose parts are in their ranges and stand once is lawful.
 use Rattle.std.proofs.Common.{◌≡◌, true, map}
+use Rattle.std.proofs.lemmas.Bool.{and_parts}
 use Rattle.listed.specs.Lists.{differ}
-use Rattle.json_fields.proofs.Numerals.{both}
 use Rattle.timing_file.specs.declared.timing.Timing.{Timing}
 use Rattle.timing_file.specs.Timing.{same_span, loop_span, extra_span, each_once}
 use Rattle.timing_file.specs.Lawful.{IsLawful}
@@ -9,7 +9,7 @@ use Rattle.timing_file.specs.Working.InRange.{IsInRange}
 
 pub lawful : (timing : Timing) → IsInRange timing → each_once timing ≡ true → IsLawful timing
 lawful timing range once =
-    let parts = both (differ same_span (map loop_span timing.loops)) (differ same_span (map extra_span timing.extra)) once in
+    let parts = and_parts (differ same_span (map loop_span timing.loops)) (differ same_span (map extra_span timing.extra)) once in
     record {
       classes = range.classes;
       services = range.services;

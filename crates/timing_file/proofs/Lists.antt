@@ -1,25 +1,25 @@
 -- Loops and extras that are read are ranges of code words, and at most 256.
-use Rattle.std.proofs.Common.{◌≡◌, ℕ, ◌%◌, ◌^◌, ◌<◌, ◌≤◌, Bool, true, cond, List, length, Option, Some, None, Result, Ok, Err, refl, sym, ap, subst, ◌∙◌, arith, eqb}
-use Rattle.std.specs.Prelude.{IfOk, ok_or, codes, nat_le, All}
+use Rattle.std.proofs.Common.{◌≡◌, ℕ, ◌%◌, ◌^◌, ◌<◌, ◌≤◌, cond, List, length, Some, None, Result, Ok, Err, subst, arith, eqb}
+use Rattle.std.proofs.lemmas.Option.{same_Some}
+use Rattle.std.specs.Prelude.{IfOk, ok_or, codes, nat_le}
 use Rattle.std.specs.List.{AllByRecursion}
 use Rattle.std.proofs.lemmas.Bool.{eqb-true, leb-true}
 use Rattle.std.proofs.lemmas.List.Elements.{All-from_recursion}
 use Rattle.serde_json.specs.Data.{Data}
 use Rattle.serde_json.specs.Find.{get}
 use Rattle.listed.specs.Faults.{Gives}
-use Rattle.listed.specs.Lists.{each_from, all_of}
-use Rattle.listed.specs.Steps.{◌>>=◌}
+use Rattle.listed.specs.Lists.{all_of}
 use Rattle.listed.specs.declared.fault.Fault.{Fault}
 use Rattle.listed.proofs.Answered.{IfOk-step, IfOk-all_of, IfOk-each_from_length, IfOk-from_Gives}
 use Rattle.json_fields.specs.Lists.{list_up_to}
 use Rattle.json_fields.specs.Numbers.{address_in}
-use Rattle.json_fields.proofs.Laws.{whole_in-range, address_in-lt, bind_some, passed, same_some, list_up_to-length, IfOk-ok_or}
+use Rattle.json_fields.proofs.Laws.{whole_in-range, address_in-lt, bind_some, passed, list_up_to-length, IfOk-ok_or}
 use Rattle.timing_file.specs.declared.fault.TimingKind.{TimingKind}
 use Rattle.timing_file.specs.declared.fault.TimingKind.TheVariants.{Range}
 use Rattle.timing_file.specs.declared.ranges.Ranged.{Ranged}
 use Rattle.timing_file.specs.declared.timing.Extra.{Extra}
 use Rattle.timing_file.specs.declared.timing.Loop.{Loop}
-use Rattle.timing_file.specs.Ranges.{word_in, word_at, count_in, count_at, ordered, ranged_at}
+use Rattle.timing_file.specs.Ranges.{word_in, word_at, count_in, count_at, ranged_at}
 use Rattle.timing_file.specs.Timing.{list_with, loop_of, extra_of}
 use Rattle.timing_file.specs.Lawful.{AreWords, IsLoop, IsExtra}
 use Rattle.timing_file.specs.Working.InRange.{AreFew}
@@ -29,7 +29,7 @@ word_at-word key d n is =
     let found = bind_some (get key d) word_in n is in
     let read = bind_some (address_in found.0) (λ address. cond (eqb (address % 4) 0) (Some address) None) n found.2 in
     let test = passed (eqb (read.0 % 4) 0) (Some read.0) n read.2 in
-    subst (λ (m : ℕ). (m % 4 ≡ 0) × (m < 2 ^ 32)) (same_some read.0 n test.1) (eqb-true _ _ test.0, address_in-lt found.0 read.0 read.1)
+    subst (λ (m : ℕ). (m % 4 ≡ 0) × (m < 2 ^ 32)) (same_Some read.0 n test.1) (eqb-true _ _ test.0, address_in-lt found.0 read.0 read.1)
 
 count_at-le : (key : List ℕ) (d : Data) (n : ℕ) → count_at key d ≡ Some n → n ≤ 2 ^ 20
 count_at-le key d n is =
@@ -51,7 +51,7 @@ ranged key d r is =
     let low = word_at-word (codes "from") d from.0 from.1 in
     let high = word_at-word (codes "to") d to.0 to.1 in
     let words : AreWords from.0 to.0 = record { from_aligned = low.0; to_aligned = high.0; order = leb-true from.0 to.0 test.0; below = high.1 } in
-    subst IsRanged (same_some found r test.1) (record { words = words; number = count_at-le key d number.0 number.1 })
+    subst IsRanged (same_Some found r test.1) (record { words = words; number = count_at-le key d number.0 number.1 })
 
 loop-is : (d : Data) → IfOk (loop_of d) IsLoop
 loop-is d =

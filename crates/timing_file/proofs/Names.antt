@@ -1,6 +1,7 @@
 -- The numbers by name of an object stand in byte order, each once, since its keys ascend.
 use Rattle.std.proofs.Common.{◌≡◌, ℕ, Bool, true, false, not, List, [], ◌∷◌, map, String, Global, string_bytes, string_cmp, nat_cmp, bytes_eq, Less, Equal, Result, Ok, Err, refl, sym, ◌∙◌, ap, subst}
-use Rattle.std.specs.Prelude.{◌&&◌, ◌||◌, IfOk, ok_or}
+use Rattle.std.proofs.lemmas.Bool.{and_parts, and_from}
+use Rattle.std.specs.Prelude.{◌||◌, IfOk, ok_or}
 use Rattle.std.specs.Cmp.Lexicographic.{slice_cmp}
 use Rattle.std.specs.Ordering.{is_lt}
 use Rattle.std.specs.List.{list_any, list_all, AllByRecursion}
@@ -10,7 +11,6 @@ use Rattle.std.proofs.lemmas.Cmp.{nat_list_cmp_total, tied_itself}
 use Rattle.std.proofs.lemmas.Slice.Eq.{bytes_eq-Decides}
 use Rattle.serde_json.specs.View.{view, members_view}
 use Rattle.serde_json.specs.declared.value.Value.{Value}
-use Rattle.json_fields.proofs.Numerals.{both}
 use Rattle.listed.specs.Lists.{differ}
 use Rattle.listed.specs.Steps.{◌>>=◌}
 use Rattle.timing_file.specs.declared.fault.TimingKind.{TimingKind}
@@ -18,9 +18,6 @@ use Rattle.timing_file.specs.declared.fault.TimingKind.TheVariants.{Range}
 use Rattle.timing_file.specs.declared.timing.NamedNumber.{NamedNumber}
 use Rattle.timing_file.specs.Timing.{named, number_in, numbers_of}
 use Rattle.timing_file.specs.Lawful.{names_of, is_before, ascend}
-
-both_true : (a b : Bool) → a ≡ true → b ≡ true → (a && b) ≡ true
-both_true a b h k = ap (λ x. x && b) h ∙ k
 
 -- ---- names that ascend stand once
 
@@ -35,14 +32,14 @@ apart a b less before true is yes' =
 none_same : (name : List ℕ) (names : List (List ℕ)) → list_all (is_before name) names ≡ true → list_any (bytes_eq name) names ≡ false
 none_same name [] h = refl
 none_same name (other ∷ names) h =
-    let parts = both (is_before name other) (list_all (is_before name) names) h in
+    let parts = and_parts (is_before name other) (list_all (is_before name) names) h in
     ap (λ x. x || list_any (bytes_eq name) names) (apart name other (is_before name other) refl (bytes_eq name other) refl parts.0) ∙ none_same name names parts.1
 
 pub ascending_once : (names : List (List ℕ)) → ascend names ≡ true → differ bytes_eq names ≡ true
 ascending_once [] h = refl
 ascending_once (name ∷ names) h =
-    let parts = both (list_all (is_before name) names) (ascend names) h in
-    both_true (not (list_any (bytes_eq name) names)) (differ bytes_eq names) (ap not (none_same name names parts.0)) (ascending_once names parts.1)
+    let parts = and_parts (list_all (is_before name) names) (ascend names) h in
+    and_from (not (list_any (bytes_eq name) names)) (differ bytes_eq names) (ap not (none_same name names parts.0)) (ascending_once names parts.1)
 
 -- ---- the names of an object's members
 
@@ -61,12 +58,12 @@ names_read es ns is = subst (λ x. IfOk x (λ ms. names_of ms ≡ map string_byt
 
 above : (k : String Global) (ks : List (String Global)) → AllByRecursion (λ y. string_cmp k y ≡ Less) ks → list_all (is_before (string_bytes k)) (map string_bytes ks) ≡ true
 above k [] less = refl
-above k (key ∷ ks) less = both_true (is_before (string_bytes k) (string_bytes key)) (list_all (is_before (string_bytes k)) (map string_bytes ks)) (ap is_lt less.0) (above k ks less.1)
+above k (key ∷ ks) less = and_from (is_before (string_bytes k) (string_bytes key)) (list_all (is_before (string_bytes k)) (map string_bytes ks)) (ap is_lt less.0) (above k ks less.1)
 
 keys_ascend : (ks : List (String Global)) → IsStrictlySortedBy string_cmp ks → ascend (map string_bytes ks) ≡ true
 unfolding IsStrictlySortedBy
 keys_ascend [] sorted = refl
-keys_ascend (k ∷ ks) sorted = both_true (list_all (is_before (string_bytes k)) (map string_bytes ks)) (ascend (map string_bytes ks)) (above k ks sorted.0) (keys_ascend ks sorted.1)
+keys_ascend (k ∷ ks) sorted = and_from (list_all (is_before (string_bytes k)) (map string_bytes ks)) (ascend (map string_bytes ks)) (above k ks sorted.0) (keys_ascend ks sorted.1)
 
 pub names_ascend : (es : List (String Global × Value)) (ns : List NamedNumber) → IsStrictlySortedBy string_cmp (keys_of es) → numbers_of (members_view es) ≡ Ok ns → ascend (names_of ns) ≡ true
 names_ascend es ns sorted is = ap ascend (names_read es ns is) ∙ keys_ascend (keys_of es) sorted

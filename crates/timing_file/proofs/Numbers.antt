@@ -1,5 +1,5 @@
 -- Numbers by name are in their range, and are read one after another.
-use Rattle.std.proofs.Common.{◌≡◌, ℕ, List, [], ◌∷◌, ◌++◌, String, Global, string_bytes, Option, Some, None, Result, Ok, Err, refl, sym, ap, subst, ◌∙◌, append_assoc, arith}
+use Rattle.std.proofs.Common.{◌≡◌, ℕ, List, [], ◌∷◌, ◌++◌, String, Global, string_bytes, Some, Result, Ok, Err, refl, sym, ap, subst, ◌∙◌, append_assoc, arith}
 use Rattle.std.specs.Prelude.{IfOk, ok_or, All}
 use Rattle.std.specs.List.{AllByRecursion}
 use Rattle.std.proofs.lemmas.List.Elements.{All-from_recursion}
@@ -29,13 +29,6 @@ numbers_go_on front left rest k v n whole split is before =
     joined : (front : List NamedNumber) (y : NamedNumber) (rest : Result (List NamedNumber) TimingKind) → with_front front (rest >>= λ ys. Ok (y ∷ ys)) ≡ with_front (front ++ y ∷ []) rest
     joined front y (Err kind) = refl
     joined front y (Ok ys) = ap Ok (sym (append_assoc front (y ∷ []) ys))
-
--- a number that isn't in its range is the fault of the whole
-pub numbers_stop : (front : List NamedNumber) (left rest : List (String Global × Value)) (k : String Global) (v : Value) (whole : Result (List NamedNumber) TimingKind)
-    → left ≡ (k, v) ∷ rest → None ≡ number_in (view v)
-    → with_front front (numbers_of (members_view left)) ≡ whole
-    → whole ≡ Err Range
-numbers_stop front left rest k v whole split is before = sym before ∙ rw (split, ← is) refl
 
 number-range : (d : Data) (n : ℕ) → number_in d ≡ Some n → (m : List ℕ) → IsInRange (named m n)
 number-range d n is m = let range = whole_in-range 1 2147483647 d n is in (range.0, omega (arith, range.1))

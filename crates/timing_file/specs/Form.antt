@@ -1,11 +1,9 @@
 -- The form of a timing file: which JSON type a value has where the format has one, and which keys stand.
-use Rattle.std.specs.Prelude.{ℕ, List, [], ◌∷◌, map, filter, if◌then◌else◌, Bool, true, false, ◌&&◌, codes, option_map, unwrap_or, is_some}
+use Rattle.std.specs.Prelude.{ℕ, List, [], ◌∷◌, map, if◌then◌else◌, Bool, true, false, ◌&&◌, ◌||◌, codes, option_map, unwrap_or, is_some, is_none}
 use Rattle.std.specs.List.{list_all}
 use Rattle.serde_json.specs.Data.{Data, Members, no_members, member}
 use Rattle.serde_json.specs.Find.{get, as_object}
 use Rattle.listed.specs.Steps.Options.{◌>>=◌}
-use Rattle.osek_kernel.specs.declared.service.Service.{Service}
-use Rattle.osek_kernel.specs.declared.service.Service.TheVariants.{Schedule}
 use Rattle.osek_kernel.specs.Services.{services, name_of}
 use Rattle.json_fields.specs.Forms.{is_number, is_text, is_object}
 use Rattle.json_fields.specs.Lists.{list_in}
@@ -18,17 +16,13 @@ use Rattle.json_fields.specs.Objects.{has_keys, has_exactly}
 abbrev pub class_keys : List (List ℕ)
 class_keys = codes "alu" ∷ codes "mul" ∷ codes "div" ∷ codes "load" ∷ codes "store" ∷ codes "branch" ∷ codes "jump" ∷ codes "fence" ∷ []
 
--- the names of the services, in the order of their numbers; Schedule is one of version 2 alone
-abbrev pub is_first_service : Service → Bool
-is_first_service Schedule = false
-is_first_service service = true
+-- the names of the services, in the order of their numbers
+abbrev pub service_keys : List (List ℕ)
+service_keys = map name_of services
 
--- the keys that a file may have in these tables beside `default`, of version 2 or of version 1
+-- the keys that `classes` may have beside `default`, of version 2 or of version 1
 abbrev pub class_keys_of : Bool → List (List ℕ)
 class_keys_of later = if later then codes "branch_taken" ∷ class_keys else class_keys
-
-abbrev pub service_keys_of : Bool → List (List ℕ)
-service_keys_of later = if later then map name_of services else map name_of (filter is_first_service services)
 
 abbrev pub default_key : List (List ℕ)
 default_key = codes "default" ∷ []
@@ -54,7 +48,7 @@ abbrev pub is_class_table : Data → Bool
 is_class_table d = is_object d && has_numbers default_key d && has_numbers (class_keys_of true) d
 
 abbrev pub is_service_table : Data → Bool
-is_service_table d = is_object d && has_numbers default_key d && has_numbers (service_keys_of true) d
+is_service_table d = is_object d && has_numbers default_key d && has_numbers service_keys d
 
 abbrev pub are_numbers : Members → Bool
 are_numbers no_members = true
@@ -109,10 +103,17 @@ abbrev pub optional_keys_of : Bool → List (List ℕ)
 optional_keys_of true = codes "extra" ∷ codes "ticks" ∷ codes "distances" ∷ codes "loops" ∷ []
 optional_keys_of false = codes "ticks" ∷ codes "distances" ∷ codes "loops" ∷ []
 
+abbrev pub has_class_keys : Bool → Data → Bool
+has_class_keys later d = has_keys default_key (class_keys_of later) d
+
+-- Schedule is a service of version 2 alone
+abbrev pub has_service_keys : Bool → Data → Bool
+has_service_keys later d = has_keys default_key service_keys d && (later || is_none (get (codes "Schedule") d))
+
 unfoldable pub has_keys_of : Bool → Data → Bool
 has_keys_of later d = has_keys required_keys (optional_keys_of later) d
-    && passes_at (has_keys default_key (class_keys_of later)) d (codes "classes")
-    && passes_at (has_keys default_key (service_keys_of later)) d (codes "services")
+    && passes_at (has_class_keys later) d (codes "classes")
+    && passes_at (has_service_keys later) d (codes "services")
 
 -- each key that the version asks for, and no other than it allows
 abbrev pub has_known_keys : Data → Bool

@@ -1,3 +1,4 @@
+pub mod Kinds
 pub mod Costs
 pub mod Form
 pub mod Tables

@@ -1,5 +1,5 @@
 -- The costs of a timing file.
-use Rattle.std.specs.Prelude.{ℕ, ◌^◌, List, [], ◌∷◌, true, false, codes, Option, Some, None}
+use Rattle.std.specs.Prelude.{ℕ, ◌^◌, List, [], ◌∷◌, false, codes, Option, Some, None}
 use Rattle.serde_json.specs.Data.{Data}
 use Rattle.serde_json.specs.Find.{get}
 use Rattle.listed.specs.Steps.Options.{◌>>=◌}
@@ -9,7 +9,7 @@ use Rattle.timing_file.specs.declared.costs.ServiceCosts.{ServiceCosts}
 use Rattle.timing_file.specs.declared.tables.Costs.{Costs}
 use Rattle.rv32_decode.specs.declared.instruction.Class.TheVariants.{Branch}
 use Rattle.timing_file.specs.Costs.{class_cost}
-use Rattle.timing_file.specs.Form.{class_keys_of, service_keys_of}
+use Rattle.timing_file.specs.Form.{class_keys_of, service_keys}
 
 -- 1 to 1,048,576 cycles
 abbrev pub cost_in : Data → Option ℕ
@@ -41,7 +41,7 @@ abbrev pub class_costs_of : Data → Option ClassCosts
 class_costs_of d = table_of (class_keys_of false) d >>= λ costs. Some (record { costs = costs })
 
 abbrev pub service_costs_of : Data → Option ServiceCosts
-service_costs_of d = table_of (service_keys_of true) d >>= λ costs. Some (record { costs = costs })
+service_costs_of d = table_of service_keys d >>= λ costs. Some (record { costs = costs })
 
 -- a branch whose comparison holds costs what each branch does, unless the table gives it a cost
 unfoldable pub costs_of : Data → Option Costs

@@ -8,7 +8,7 @@ ghost use Rattle.json_fields.specs.Forms.{is_number};
 ghost use Rattle.json_fields.specs.Objects.{texts};
 ghost use Rattle.timing_file.specs.Form as words;
 
-use crate::keys::{class_keys_of, service_keys_of};
+use crate::keys::{class_keys_of, service_keys};
 use json_fields::list_in;
 use serde_json::{Map, Value};
 
@@ -40,10 +40,9 @@ fn lists_have_form(value: &Value) -> bool
 fn class_costs_have_form(value: &Value) -> bool
     ensures { result ≡ words.class_costs_have_form (view value.now) }
 {
-    match value.get("classes") {
-        Some(table) => is_class_table(table),
-        None => true,
-    }
+    value
+        .get("classes")
+        .is_none_or(|table| is_class_table(table))
 }
 
 fn is_class_table(table: &Value) -> bool
@@ -55,27 +54,21 @@ fn is_class_table(table: &Value) -> bool
 fn service_costs_have_form(value: &Value) -> bool
     ensures { result ≡ words.service_costs_have_form (view value.now) }
 {
-    match value.get("services") {
-        Some(table) => is_service_table(table),
-        None => true,
-    }
+    value
+        .get("services")
+        .is_none_or(|table| is_service_table(table))
 }
 
 fn is_service_table(table: &Value) -> bool
     ensures { result ≡ words.is_service_table (view table.now) }
 {
-    table.is_object()
-        && has_numbers(table, &["default"])
-        && has_numbers(table, service_keys_of(true))
+    table.is_object() && has_numbers(table, &["default"]) && has_numbers(table, service_keys())
 }
 
 fn number_table_at(value: &Value, key: &str) -> bool
     ensures { result ≡ words.passes_at words.is_number_table (view value.now) key.now }
 {
-    match value.get(key) {
-        Some(table) => is_number_table(table),
-        None => true,
-    }
+    value.get(key).is_none_or(|table| is_number_table(table))
 }
 
 fn is_number_table(table: &Value) -> bool
@@ -96,10 +89,9 @@ fn are_numbers(members: &Map<String, Value>) -> bool
 fn ranges_at(value: &Value, list: &str, key: &str) -> bool
     ensures { result ≡ words.passes_at (words.is_range_list key.now) (view value.now) list.now }
 {
-    match value.get(list) {
-        Some(ranges) => is_range_list(ranges, key),
-        None => true,
-    }
+    value
+        .get(list)
+        .is_none_or(|ranges| is_range_list(ranges, key))
 }
 
 fn is_range_list(value: &Value, key: &str) -> bool
@@ -126,19 +118,13 @@ fn is_range(range: &Value, key: &str) -> bool
 fn text_at(value: &Value, key: &str) -> bool
     ensures { result ≡ words.has_text (view value.now) key.now }
 {
-    match value.get(key) {
-        Some(member) => member.is_string(),
-        None => true,
-    }
+    value.get(key).is_none_or(|member| member.is_string())
 }
 
 fn number_at(value: &Value, key: &str) -> bool
     ensures { result ≡ words.has_number (view value.now) key.now }
 {
-    match value.get(key) {
-        Some(member) => member.is_number(),
-        None => true,
-    }
+    value.get(key).is_none_or(|member| member.is_number())
 }
 
 fn has_numbers(value: &Value, keys: &[&str]) -> bool

@@ -80,10 +80,7 @@ fn extra_of(extra: &Extra, address: u32) -> u32
 fn number_named(numbers: &[NamedNumber], name: &[u8]) -> Option<u32>
     ensures { result ≡ names.number_named numbers.now name.now }
 {
-    match first_named(numbers, name) {
-        Some(named) => Some(named.number),
-        None => None,
-    }
+    Some(first_named(numbers, name)?.number)
 }
 
 fn first_named<'n>(numbers: &'n [NamedNumber], name: &[u8]) -> Option<&'n NamedNumber>

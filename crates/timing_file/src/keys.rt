@@ -1,6 +1,6 @@
 //! Which keys stand in a timing file.
 
-ghost use Rattle.std.specs.Prelude.{◌≡◌};
+ghost use Rattle.std.specs.Prelude.{◌≡◌, codes};
 ghost use Rattle.std.specs.List.{list_all};
 ghost use Rattle.serde_json.specs.View.{view};
 ghost use Rattle.json_fields.specs.Objects as objects;
@@ -36,8 +36,8 @@ fn has_keys_of(value: &Value, later: bool) -> bool
         value,
         &["version", "classes", "services", "alarm", "interrupt"],
         optional_keys_of(later),
-    ) && costs_at(value, "classes", class_keys_of(later))
-        && costs_at(value, "services", service_keys_of(later))
+    ) && class_keys_at(value, later)
+        && service_keys_at(value, later)
 }
 
 fn optional_keys_of(later: bool) -> &'static [&'static str]
@@ -54,81 +54,69 @@ fn optional_keys_of(later: bool) -> &'static [&'static str]
 pub(crate) fn class_keys_of(later: bool) -> &'static [&'static str]
     ensures { objects.texts result.now ≡ words.class_keys_of later }
 {
-    if later {
-        &[
-            "branch_taken",
-            "alu",
-            "mul",
-            "div",
-            "load",
-            "store",
-            "branch",
-            "jump",
-            "fence",
-        ]
-    } else {
-        &[
-            "alu", "mul", "div", "load", "store", "branch", "jump", "fence",
-        ]
-    }
+    let keys: &'static [&'static str] = &[
+        "branch_taken",
+        "alu",
+        "mul",
+        "div",
+        "load",
+        "store",
+        "branch",
+        "jump",
+        "fence",
+    ];
+    if later { keys } else { &keys[1..] }
 }
 
-/// The keys of the table of services beside `default`, of version 2 or of version 1.
-pub(crate) fn service_keys_of(later: bool) -> &'static [&'static str]
-    ensures { objects.texts result.now ≡ words.service_keys_of later }
+/// The keys of the table of services beside `default`.
+pub(crate) fn service_keys() -> &'static [&'static str]
+    ensures { objects.texts result.now ≡ words.service_keys }
 {
-    if later {
-        &[
-            "ActivateTask",
-            "TerminateTask",
-            "ChainTask",
-            "GetResource",
-            "ReleaseResource",
-            "DisableAllInterrupts",
-            "EnableAllInterrupts",
-            "SuspendAllInterrupts",
-            "ResumeAllInterrupts",
-            "SuspendOSInterrupts",
-            "ResumeOSInterrupts",
-            "Schedule",
-            "EndISR",
-        ]
-    } else {
-        &[
-            "ActivateTask",
-            "TerminateTask",
-            "ChainTask",
-            "GetResource",
-            "ReleaseResource",
-            "DisableAllInterrupts",
-            "EnableAllInterrupts",
-            "SuspendAllInterrupts",
-            "ResumeAllInterrupts",
-            "SuspendOSInterrupts",
-            "ResumeOSInterrupts",
-            "EndISR",
-        ]
-    }
+    &[
+        "ActivateTask",
+        "TerminateTask",
+        "ChainTask",
+        "GetResource",
+        "ReleaseResource",
+        "DisableAllInterrupts",
+        "EnableAllInterrupts",
+        "SuspendAllInterrupts",
+        "ResumeAllInterrupts",
+        "SuspendOSInterrupts",
+        "ResumeOSInterrupts",
+        "Schedule",
+        "EndISR",
+    ]
 }
 
-fn costs_at(value: &Value, key: &str, optional: &[&str]) -> bool
-    ensures { result ≡ words.passes_at
-        (objects.has_keys words.default_key (objects.texts optional.now))
-        (view value.now) key.now }
+fn class_keys_at(value: &Value, later: bool) -> bool
+    ensures { result ≡ words.passes_at (words.has_class_keys later) (view value.now)
+        (codes "classes") }
 {
-    match value.get(key) {
-        Some(table) => has_keys(table, &["default"], optional),
-        None => true,
-    }
+    value.get("classes").is_none_or(|table| has_keys(table, &["default"], class_keys_of(later)))
+}
+
+fn service_keys_at(value: &Value, later: bool) -> bool
+    ensures { result ≡ words.passes_at (words.has_service_keys later) (view value.now)
+        (codes "services") }
+{
+    value
+        .get("services")
+        .is_none_or(|table| has_service_keys(table, later))
+}
+
+fn has_service_keys(table: &Value, later: bool) -> bool
+    ensures { result ≡ words.has_service_keys later (view table.now) }
+{
+    has_keys(table, &["default"], service_keys()) && (later || table.get("Schedule").is_none())
 }
 
 fn range_keys_at(value: &Value, list: &str, key: &str) -> bool
     ensures { result ≡ words.passes_at (words.has_range_keys key.now) (view value.now) list.now }
 {
-    match value.get(list) {
-        Some(ranges) => has_range_keys(ranges, key),
-        None => true,
-    }
+    value
+        .get(list)
+        .is_none_or(|ranges| has_range_keys(ranges, key))
 }
 
 fn has_range_keys(value: &Value, key: &str) -> bool

@@ -42,10 +42,7 @@ fn ordered(ranged: Ranged) -> Option<Ranged>
 fn word_at(value: &Value, key: &str) -> Option<u32>
     ensures { result ≡ words.word_at key.now (view value.now) }
 {
-    match value.get(key) {
-        Some(text) => word_in(text),
-        None => None,
-    }
+    word_in(value.get(key)?)
 }
 
 fn word_in(value: &Value) -> Option<u32>
@@ -62,10 +59,7 @@ fn word_in(value: &Value) -> Option<u32>
 fn count_at(value: &Value, key: &str) -> Option<u32>
     ensures { result ≡ words.count_at key.now (view value.now) }
 {
-    match value.get(key) {
-        Some(count) => count_in(count),
-        None => None,
-    }
+    count_in(value.get(key)?)
 }
 
 fn count_in(value: &Value) -> Option<u32>

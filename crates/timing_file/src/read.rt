@@ -12,7 +12,7 @@ use crate::fault::{TimingFault, TimingKind};
 use crate::form::has_form;
 use crate::keys::has_known_keys;
 use crate::reading::timing_of;
-use crate::spans::{extras_differ, loops_differ};
+use crate::spans::spans_differ;
 use crate::timing::Timing;
 use json_fields::{Format, read_file};
 use listed::{Fault, Memory};
@@ -70,7 +70,7 @@ fn each_once(alloc: Global, timing: &Timing) -> Result<bool, Memory>
     ensures { IfOk result (λ once. once ≡ words.each_once timing.now) }
 {
     Ok(
-        loops_differ(alloc, timing.loops.as_slice())?
-            && extras_differ(alloc, timing.extra.as_slice())?,
+        spans_differ(alloc, timing.loops.as_slice())?
+            && spans_differ(alloc, timing.extra.as_slice())?,
     )
 }

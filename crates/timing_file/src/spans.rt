@@ -15,30 +15,45 @@ pub(crate) struct Span {
     pub(crate) to: u32,
 }
 
-/// Whether no two loops have the same addresses.
-pub(crate) fn loops_differ(alloc: Global, loops: &[Loop]) -> Result<bool, Memory>
-    ensures { IfOk result (λ all. all ≡ differ words.same_span (map words.loop_span loops.now)) }
-{
-    let mut spans = Vec::new(alloc);
-    for range in loops {
-        spans.push(Span {
-            from: range.from,
-            to: range.to,
-        })?;
-    }
-    all_differ(alloc, spans.as_slice())
+/// What has a range of addresses.
+pub(crate) trait Spanned {
+    ghost use Rattle.timing_file.specs.declared.spans.Span.{Span};
+
+    ghost span: { Self → Span };
+
+    fn span(&self) -> Span
+        ensures { result ≡ span self.now };
 }
 
-/// Whether no two extras have the same addresses.
-pub(crate) fn extras_differ(alloc: Global, extras: &[Extra]) -> Result<bool, Memory>
-    ensures { IfOk result (λ all. all ≡ differ words.same_span (map words.extra_span extras.now)) }
+impl Spanned for Loop {
+    ghost span = { words.loop_span };
+
+    fn span(&self) -> Span {
+        Span {
+            from: self.from,
+            to: self.to,
+        }
+    }
+}
+
+impl Spanned for Extra {
+    ghost span = { words.extra_span };
+
+    fn span(&self) -> Span {
+        Span {
+            from: self.from,
+            to: self.to,
+        }
+    }
+}
+
+/// Whether no two ranges have the same addresses.
+pub(crate) fn spans_differ<T: Spanned>(alloc: Global, ranges: &[T]) -> Result<bool, Memory>
+    ensures { IfOk result (λ all. all ≡ differ words.same_span (map T.span ranges.now)) }
 {
     let mut spans = Vec::new(alloc);
-    for range in extras {
-        spans.push(Span {
-            from: range.from,
-            to: range.to,
-        })?;
+    for range in ranges {
+        spans.push(range.span())?;
     }
     all_differ(alloc, spans.as_slice())
 }

@@ -8,7 +8,7 @@ ghost use Rattle.timing_file.specs.Tables as words;
 ghost use Rattle.timing_file.specs.Working.InRange.{AreAllCosts};
 
 use crate::costs::{ClassCosts, ServiceCosts};
-use crate::keys::{class_keys_of, service_keys_of};
+use crate::keys::{class_keys_of, service_keys};
 use json_fields::whole_in;
 use rv32_decode::Class;
 use serde_json::Value;
@@ -67,7 +67,7 @@ fn service_costs_of(table: &Value) -> Option<ServiceCosts>
 {
     let default = cost_at(table, "default")?;
     let mut costs = [default; 13];
-    fill(&mut costs, table, service_keys_of(true), default)?;
+    fill(&mut costs, table, service_keys(), default)?;
     Some(ServiceCosts { costs })
 }
 
@@ -100,10 +100,7 @@ fn cost_at(value: &Value, key: &str) -> Option<u32>
     ensures value { result ≡ words.cost_at key.now (view value.now) }
     ensures range { IfSome result IsCost }
 {
-    match value.get(key) {
-        Some(cost) => cost_in(cost),
-        None => None,
-    }
+    cost_in(value.get(key)?)
 }
 
 fn cost_in(value: &Value) -> Option<u32>

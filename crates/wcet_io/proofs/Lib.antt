@@ -1,3 +1,2 @@
 pub mod FirstPlace
 pub mod InPieces
-pub mod Replacement

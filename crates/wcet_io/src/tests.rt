@@ -1,7 +1,7 @@
 use crate::host_files::read_bytes;
 use crate::{
-    Bytes, FileFault, Files, HostFiles, HostSink, MemFiles, MemSink, Memory, Sink, SinkFault,
-    SureFiles, SureSink, Text,
+    Bytes, Files, HostFiles, HostSink, MemFiles, MemSink, Memory, Sink, SinkFault, SureFiles,
+    SureSink, Text,
 };
 use std::alloc::{AllocError, Global};
 use std::io::{ErrorKind, Read, Write};
@@ -9,42 +9,6 @@ use std::test::Fail;
 use std::{fs, io};
 
 const LIMIT: usize = 4;
-
-#[derive(Clone, Copy, Debug, PartialEq, Eq)]
-enum Stop {
-    Read,
-    Write,
-    Long(u64),
-    Memory,
-}
-
-/// Reads two files and writes them one after the other.
-fn join<F: Files, O: Sink>(
-    alloc: Global,
-    first: &Text,
-    second: &Text,
-    files: &mut F,
-    out: &mut O,
-) -> Result<(), Stop> {
-    let mut bytes = read(alloc, first, files)?.into_vec();
-    let more = read(alloc, second, files)?;
-    if bytes.extend_from_slice(more.as_slice()).is_err() {
-        return Err(Stop::Memory);
-    }
-    match out.write(&bytes) {
-        Ok(()) => Ok(()),
-        Err(SinkFault::Failed) => Err(Stop::Write),
-        Err(SinkFault::Memory) => Err(Stop::Memory),
-    }
-}
-
-fn read<F: Files>(alloc: Global, name: &Text, files: &mut F) -> Result<Bytes, Stop> {
-    files.read(alloc, name, LIMIT).map_err(|fault| match fault {
-        FileFault::Failed => Stop::Read,
-        FileFault::Long { taken } => Stop::Long(taken),
-        FileFault::Memory => Stop::Memory,
-    })
-}
 
 fn text(alloc: Global, text: &str) -> Result<Text, Memory> {
     Text::from_str(alloc, text)
@@ -88,49 +52,24 @@ fn files_in_memory_answer_reads(rt: HostRuntime) -> Result<(), Fail> {
     Ok(())
 }
 
-/// What a join of two files writes, where a read and a write may be made to fail.
-fn joined(
-    alloc: Global,
-    failing_read: Option<u64>,
-    failing_write: Option<u64>,
-) -> Result<(Result<(), Stop>, MemSink), Memory> {
-    let (first, second) = (text(alloc, "first")?, text(alloc, "second")?);
-    let (mut files, mut out) = (MemFiles::new(alloc), MemSink::new(alloc));
-    files.put(text(alloc, "first")?, bytes(alloc, &[1])?)?;
-    files.put(text(alloc, "second")?, bytes(alloc, &[2])?)?;
-    if let Some(call) = failing_read {
-        files.fail_at(call)?;
-    }
-    if let Some(call) = failing_write {
-        out.fail_at(call)?;
-    }
-    let answer = join(alloc, &first, &second, &mut files, &mut out);
-    Ok((answer, out))
-}
-
 #[test]
-fn a_join_stops_where_a_call_fails(rt: HostRuntime) -> Result<(), Fail> {
-    let table: [(Option<u64>, Option<u64>, Result<(), Stop>, &[u8]); 4] = [
-        (None, None, Ok(()), &[1, 2]),
-        (Some(0), None, Err(Stop::Read), &[]),
-        (Some(1), None, Err(Stop::Read), &[]),
-        (None, Some(0), Err(Stop::Write), &[]),
-    ];
-    for (failing_read, failing_write, wanted, written) in table {
-        let (answer, out) = joined(rt.alloc(), failing_read, failing_write)?;
-        assert_eq!(rt; answer, wanted);
-        assert_eq!(rt; out.written(), written);
-    }
+fn a_sink_in_memory_fails_where_it_is_told(rt: HostRuntime) -> Result<(), Fail> {
+    let mut out = MemSink::new(rt.alloc());
+    out.fail_at(1)?;
+    assert_eq!(rt; out.write(&[1]), Ok(()));
+    assert_eq!(rt; out.write(&[2]), Err(SinkFault::Failed));
+    assert_eq!(rt; out.written(), [1].as_slice());
     Ok(())
 }
 
 #[test]
 fn sure_objects_never_fail(rt: HostRuntime) -> Result<(), Fail> {
     let alloc = rt.alloc();
-    let (held, missing) = (text(alloc, "held")?, text(alloc, "missing")?);
     let (mut files, mut out) = (SureFiles::new(alloc), SureSink::new(alloc));
     files.put(text(alloc, "held")?, bytes(alloc, &[4, 5])?)?;
-    assert_eq!(rt; join(alloc, &held, &missing, &mut files, &mut out), Ok(()));
+    assert_eq!(rt; answer(alloc, "held", &mut files)?.as_str(), "[4, 5]");
+    assert_eq!(rt; answer(alloc, "missing", &mut files)?.as_str(), "[]");
+    assert_eq!(rt; out.write(&[4, 5]), Ok(()));
     assert_eq!(rt; out.written(), [4, 5].as_slice());
     Ok(())
 }

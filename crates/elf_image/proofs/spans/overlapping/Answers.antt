@@ -1,8 +1,9 @@
 use Rattle.std.proofs.Common.{◌≡◌, ◌<◌, ℕ, get_or, false, sym, ◌∙◌, ap, subst, inl, inr, arith}
 use Rattle.std.proofs.lemmas.Bool.{cases_lt}
+use Rattle.std.proofs.lemmas.List.{get_or_default}
 use Rattle.elf_image.specs.Elf.{shares}
 use Rattle.elf_image.specs.declared.headers.ProgramHeader.{ProgramHeader}
-use Rattle.elf_image.proofs.SpanLemmas.{overlap_found, overlaps_none, overlaps-in_order, no_overlap, reach_more, any_default}
+use Rattle.elf_image.proofs.SpanLemmas.{overlap_found, overlaps_none, overlaps-in_order, no_overlap, reach_more}
 use Rattle.elf_image.proofs.spans.overlapping.Goals as goal
 
 nothing : ProgramHeader
@@ -27,7 +28,7 @@ loop-span-preserved c = record {
         | inr here ↦
             let e : c.loop-span.span-index ≡ i = omega arith in
             let low : (get_or c.args.spans.now c.loop-span.span-index nothing).address ≡ (get_or c.args.spans.now c.loop-span.span-index d).address =
-            ap (λ x. x.address) (any_default c.args.spans.now c.loop-span.span-index nothing d c.loop-span-test.true) in
+            ap (λ x. x.address) (get_or_default c.args.spans.now c.loop-span.span-index nothing d c.loop-span-test.true) in
             subst (λ k. (j : ℕ) → j < k → ◌≡◌ (shares (get_or c.args.spans.now j d) (get_or c.args.spans.now k d)) false) e
             (λ j before. no_overlap c.args.spans.now c.loop-span.span-index j d c.loop-span-test.true before
             (omega (arith, c.if-from-reach.false, c.from.ensures, c.loop-span.invariant.reach, low)))
