@@ -214,7 +214,7 @@ execution_keeps image system execution before after step fits = subst (IsStateOf
   time = omega arith;
 })
 
-pending_within : (pending : List Bool) (n : ℕ) → slice_index_or pending n false ≡ true → n < length pending
+pub pending_within : (pending : List Bool) (n : ℕ) → slice_index_or pending n false ≡ true → n < length pending
 pending_within [] n e = cc
 pending_within (b ∷ bs) zero e = omega arith
 pending_within (b ∷ bs) (suc n) e = let within : n < length bs = pending_within bs n e in omega arith

@@ -3,3 +3,8 @@ pub mod Placing
 pub mod Keeping
 pub mod Kept
 pub mod Times
+pub mod Machines
+pub mod Changed
+pub mod Starting
+pub mod Tables
+pub mod Made

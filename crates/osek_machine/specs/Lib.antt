@@ -7,4 +7,7 @@ pub mod Loops
 pub mod Declarations
 pub mod Activations
 pub mod Stuck
+pub mod Decoded
+pub mod Machine
+pub mod Working
 pub mod Laws

@@ -78,7 +78,7 @@ saved_any test Sw address word = refl
 
 -- ---- The word of an instruction
 
-initial_fits : (segments : List Segment) → All IsSegment segments → (address byte : ℕ) → initial_byte segments address ≡ Some byte → byte < 2 ^ 8
+pub initial_fits : (segments : List Segment) → All IsSegment segments → (address byte : ℕ) → initial_byte segments address ≡ Some byte → byte < 2 ^ 8
 initial_fits [] lawful address byte found = absurd (none-some byte found)
 initial_fits (one ∷ others) lawful address byte found =
     elim (cases_Bool (covers one address)) as (λ _. byte < 2 ^ 8) [

@@ -110,8 +110,8 @@ pub(crate) fn imm_result(op: ImmOp, a: u32, imm: i32) -> u32
     reg_result(operation, a, word_of(imm))
 }
 
-/// Whether a branch is taken.
-pub(crate) fn is_taken(op: BranchOp, a: u32, b: u32) -> bool
+/// Whether a branch is taken that finds these words in its two registers.
+pub fn is_taken(op: BranchOp, a: u32, b: u32) -> bool
     ensures { result ≡ is_taken op a b }
 {
     match op {

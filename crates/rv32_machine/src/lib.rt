@@ -27,6 +27,7 @@ mod store;
 mod tests;
 mod turns;
 
+pub use arithmetic::is_taken;
 pub use context_step::step;
 pub use execution::{exec, is_executable};
 pub use fetch::Code;

@@ -1,0 +1,3 @@
+pub mod Stances
+pub mod Changes
+pub mod Tables
