@@ -3,3 +3,8 @@ pub mod Turns
 pub mod Sound
 pub mod Law
 pub mod WalkLaws
+pub mod Nodes
+pub mod Reaching
+pub mod Numbers
+pub mod NameSets
+pub mod Graphs

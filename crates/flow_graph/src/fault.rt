@@ -1,34 +1,58 @@
 //! Why code has no graph.
 
 use listed::Memory;
+use std::fmt::{self, Display, Formatter, Write};
 use thiserror::Error;
 
 /// What is wrong with the code of a system. Of the kinds that hold, the first one in the order of
 /// judging is told.
-#[derive(Clone, Copy, Debug, PartialEq, Eq, Error)]
+#[derive(Clone, Copy, Debug, PartialEq, Eq)]
 pub enum CodeKind {
-    #[error("NoEntry")]
+    /// A context has no symbol for its entry.
     NoEntry,
-    #[error("BadWord")]
+    /// The word is no instruction, or is EBREAK.
     BadWord,
-    #[error("Indirect")]
+    /// A jump whose target the words don't tell.
     Indirect,
-    #[error("Leaves")]
+    /// No code word stands there, or a return has no open call.
     Leaves,
-    #[error("IntoService")]
+    /// An entry or an edge leads between the words of a service or of a pair.
     IntoService,
-    #[error("BadService")]
+    /// An ECALL that asks for no service of the table.
     BadService,
-    #[error("Recursion")]
+    /// A call that is open already.
     Recursion,
-    #[error("UncoveredBack")]
+    /// A step back that no declared loop covers.
     UncoveredBack,
-    #[error("Depth")]
+    /// A call on top of 16 open ones.
     Depth,
-    #[error("Limit")]
+    /// More than 65,535 nodes, or an alarm's distance past 2^31 - 1 cycles.
     Limit,
-    #[error("Name")]
+    /// A name in the timing that the system doesn't have, or a number that it lacks.
     Name,
+}
+
+impl Display for CodeKind {
+    ghost use Rattle.std.specs.Prelude.{Some};
+    ghost use Rattle.flow_graph.specs.Kinds.{code_word};
+
+    ghost output = { λ kind. Some (code_word kind) };
+
+    fn fmt<W: Write>(&self, f: &mut Formatter<W>) -> fmt::Result {
+        f.write_str(match self {
+            CodeKind::NoEntry => "NoEntry",
+            CodeKind::BadWord => "BadWord",
+            CodeKind::Indirect => "Indirect",
+            CodeKind::Leaves => "Leaves",
+            CodeKind::IntoService => "IntoService",
+            CodeKind::BadService => "BadService",
+            CodeKind::Recursion => "Recursion",
+            CodeKind::UncoveredBack => "UncoveredBack",
+            CodeKind::Depth => "Depth",
+            CodeKind::Limit => "Limit",
+            CodeKind::Name => "Name",
+        })
+    }
 }
 
 /// Why `build` gave no graph: a kind of fault, with the context and the address that have it where

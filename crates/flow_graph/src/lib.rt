@@ -3,17 +3,33 @@
 //!
 //! `specs/Graph.antt` says what nodes and edges are, `specs/Faults.antt` what is wrong with a node and
 //! which nodes are reached, `specs/Standing.antt` and `specs/Walks.antt` what the laws say, and
-//! `specs/Judging.antt` what building a graph is to answer, which no code does yet.
+//! `specs/Judging.antt` what building a graph answers: the graph, or the first fault.
 //!
-//! Of a flow: `for node in 0..flow.nodes() { let (first, depth) = (flow.address(node), flow.depth(node)); }`
+//! ```text
+//! let flow = build(alloc, &image, &system, &timing)?;
+//! for node in 0..flow.nodes() {
+//!     let (address, depth) = (flow.address(node), flow.depth(node));
+//! }
+//! ```
 #![tactic(auto)]
 
+mod building;
 mod edge;
+mod edges;
 mod fault;
 mod flow;
+mod found;
+mod judge;
+mod judged;
 mod laws;
+mod names;
 mod node;
+mod numbering;
+mod reach;
+#[cfg(test)]
+mod tests;
 
+pub use building::build;
 pub use edge::{Edge, EdgeKind, Edges};
 pub use fault::{CodeFault, CodeKind};
 pub use flow::{Flow, Leaving};
