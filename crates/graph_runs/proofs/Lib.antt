@@ -1,0 +1,4 @@
+pub mod Positions
+pub mod Entries
+pub mod Ending
+pub mod Walking
