@@ -1,0 +1,11 @@
+pub mod EveryNode
+pub mod GraphFacts
+pub mod LoopLists
+pub mod NodeBits
+pub mod PlantFacts
+pub mod Answering
+pub mod BeginFacts
+pub mod BeginLists
+pub mod Rooting
+pub mod Searching
+pub mod TableSteps

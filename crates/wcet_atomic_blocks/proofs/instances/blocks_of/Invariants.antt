@@ -1,0 +1,8 @@
+use Rattle.std.proofs.Common.{◌≡◌}
+use Rattle.std.specs.Prelude.{filter}
+use Rattle.std.specs.List.{range_with_len}
+use Rattle.wcet_atomic_blocks.specs.Loops.{block_enters}
+use Rattle.wcet_atomic_blocks.proofs.instances.blocks_of.Given as goal
+
+abbrev pub invariant-loop-number : goal.invariant-loop-number
+invariant-loop-number l = l.ids ≡ filter (block_enters l.flow l.blocks l.head l.range) (range_with_len 0 l.number)

@@ -1,0 +1,9 @@
+pub mod NodeSets
+pub mod Blocks
+pub mod Cutting
+pub mod Loops
+pub mod Plants
+pub mod PlantLaws
+pub mod Planting
+pub mod Cases
+pub mod Working

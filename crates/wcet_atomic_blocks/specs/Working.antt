@@ -1,0 +1,4 @@
+pub mod Rooted
+pub mod Search
+pub mod Tables
+pub mod Wanted
