@@ -2,3 +2,4 @@ pub mod Refusals
 pub mod Verdicts
 pub mod Solved
 pub mod Oil
+pub mod Code

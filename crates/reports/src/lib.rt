@@ -5,11 +5,13 @@
 //!     let refusal = oil_refusal(alloc, 2, kind)?;        // "oil line 2 Expected\n"
 #![tactic(auto)]
 
+mod code;
 mod oil;
 mod refusals;
 mod solved;
 mod verdicts;
 
+pub use code::{blocks_refusal, code_refusal, elf_refusal, push_context_line, timing_refusal};
 pub use oil::{model_refusal, oil_refusal};
 pub use refusals::{input_refusal, unaligned_refusal, words_refusal};
 pub use solved::{

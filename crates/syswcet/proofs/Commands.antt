@@ -1,9 +1,13 @@
 -- What the steps of each command leave of the outside.
-use Rattle.std.proofs.Common.{◌≡◌, ℕ, List, [], ◌∷◌, Contains, Option, Some, None, Err, refl, arith}
+use Rattle.std.proofs.Common.{◌≡◌, ℕ, List, [], ◌∷◌, Contains, Option, Some, None, Ok, Err, refl, arith}
 use Rattle.wcet_io.specs.Files.{FilesOutside}
 use Rattle.certificate.specs.declared.cert.Cert.{Cert}
 use Rattle.abstract_sched.specs.declared.states.AbsState.{AbsState}
 use Rattle.oil_grammar.specs.declared.tree.Tree.{Tree}
+use Rattle.elf_image.specs.Image.{ImageData}
+use Rattle.oil_model.specs.declared.system.System.{System}
+use Rattle.timing_file.specs.declared.timing.Timing.{Timing}
+use Rattle.wcet_atomic_blocks.specs.Plants.{PlantData}
 use Rattle.lone_image.specs.Verdict.{verdict_of}
 use Rattle.lone_image.specs.LoneStates.{first_open}
 use Rattle.command_steps.specs.Steps.{Calls, IsCall, Judged}
@@ -11,17 +15,48 @@ use Rattle.command_steps.proofs.Honest.{IsHonest, file, judged, joined}
 use Rattle.reports.specs.Refusals.{words_refusal}
 use Rattle.syswcet.specs.declared.words.Command.{Command}
 use Rattle.syswcet.specs.declared.words.Command.TheVariants as command
-use Rattle.syswcet.specs.Inputs.{image_limit, states_limit, oil_limit, HasLoneImage, HasLoneCertificate, HasLoneStates, HasTree, LoneImage, LoneCertificate, LoneStates, OilTree}
+use Rattle.syswcet.specs.Inputs.{image_limit, states_limit, oil_limit, HasLoneImage, HasLoneCertificate, HasLoneStates, HasTree, LoneImage, LoneCertificate, LoneStates, OilTree, HasSystem}
 use Rattle.syswcet.specs.CheckLone.{verdict_answer, CertificateAnswer}
 use Rattle.syswcet.specs.BoundLone.{AnswersClosed, StatesAnswer}
 use Rattle.syswcet.specs.ShowOil.{HasLayout}
+use Rattle.syswcet.specs.Plants.{timing_limit, HasImage, HasTiming, HasPlant, OilSystem, ElfImage, TimingFile, PlantWithTiming, PlantWithImage, PlantOf}
+use Rattle.syswcet.specs.ShowCode.{code_text}
 use Rattle.syswcet.specs.Commands.{files_of, StepsOf}
 
 first : (x : List ℕ) (xs : List (List ℕ)) → Contains (x ∷ xs) x
 first x xs = (0, omega arith, refl)
 
+third : (x y z : List ℕ) (xs : List (List ℕ)) → Contains (x ∷ y ∷ z ∷ xs) z
+third x y z xs = (2, omega arith, refl)
+
 second : (x y : List ℕ) (xs : List (List ℕ)) → Contains (x ∷ y ∷ xs) y
 second x y xs = (1, omega arith, refl)
+
+-- a system and an image, among three files
+pub system_honest : {F : Type 0} (outside : F → FilesOutside) (reads : Calls F) (oil elf timing : List ℕ)
+    → IsHonest outside (oil ∷ elf ∷ timing ∷ []) (OilSystem (IsCall outside reads) oil)
+system_honest outside reads oil elf timing =
+    let names : List (List ℕ) = oil ∷ elf ∷ timing ∷ [] in
+    joined outside names (OilTree (IsCall outside reads) oil) (λ tree. Judged (HasSystem tree))
+    (file outside reads names oil oil_limit HasTree (first oil (elf ∷ timing ∷ []))) (λ (tree : Tree). judged outside names (HasSystem tree))
+
+pub image_honest : {F : Type 0} (outside : F → FilesOutside) (reads : Calls F) (oil elf timing : List ℕ)
+    → IsHonest outside (oil ∷ elf ∷ timing ∷ []) (ElfImage (IsCall outside reads) elf)
+image_honest outside reads oil elf timing = file outside reads (oil ∷ elf ∷ timing ∷ []) elf image_limit HasImage (second oil elf (timing ∷ []))
+
+-- the plant of three files
+plant : {F : Type 0} (outside : F → FilesOutside) (reads : Calls F) (oil elf timing : List ℕ)
+    → IsHonest outside (oil ∷ elf ∷ timing ∷ []) (PlantOf (IsCall outside reads) oil elf timing)
+plant outside reads oil elf timing =
+    let names : List (List ℕ) = oil ∷ elf ∷ timing ∷ [] in
+    let calls = IsCall outside reads in
+    joined outside names (OilSystem calls oil) (PlantWithImage calls elf timing)
+    (system_honest outside reads oil elf timing)
+    (λ (system : System). joined outside names (ElfImage calls elf) (PlantWithTiming calls timing system)
+    (image_honest outside reads oil elf timing)
+    (λ (image : ImageData). joined outside names (TimingFile calls timing) (λ t. Judged (HasPlant image system t))
+    (file outside reads names timing timing_limit HasTiming (third oil elf timing []))
+    (λ (times : Timing). judged outside names (HasPlant image system times))))
 
 pub honest : {F : Type 0} (outside : F → FilesOutside) (reads : Calls F) (command : Option Command)
     → IsHonest outside (files_of command) (StepsOf (IsCall outside reads) command)
@@ -47,3 +82,8 @@ honest outside reads (Some (command.ShowOil oil)) =
     let names : List (List ℕ) = oil ∷ [] in
     joined outside names (OilTree (IsCall outside reads) oil) (λ tree. Judged (HasLayout tree))
     (file outside reads names oil oil_limit HasTree (first oil [])) (λ (tree : Tree). judged outside names (HasLayout tree))
+honest outside reads (Some (command.ShowCode oil elf timing)) =
+    let names : List (List ℕ) = oil ∷ elf ∷ timing ∷ [] in
+    let calls = IsCall outside reads in
+    joined outside names (PlantOf calls oil elf timing) (λ plant. Judged (λ given. given ≡ Ok (code_text plant)))
+    (plant outside reads oil elf timing) (λ (plant : PlantData). judged outside names (λ given. given ≡ Ok (code_text plant)))

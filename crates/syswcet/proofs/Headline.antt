@@ -1,5 +1,5 @@
 -- The headline: from the steps of each command to what its text means.
-use Rattle.std.proofs.Common.{◌≡◌, ◌⊎◌, ℕ, List, ℤ, unsigned_abs, Option, Some, None, Result, Ok, Err, inl, inr, refl, ap, ◌∙◌, subst}
+use Rattle.std.proofs.Common.{◌≡◌, ◌⊎◌, ℕ, List, [], ◌∷◌, ℤ, unsigned_abs, Option, Some, None, Result, Ok, Err, inl, inr, refl, ap, ◌∙◌, subst}
 use Rattle.wcet_io.specs.Files.{FilesOutside}
 use Rattle.wcet_io.specs.Sink.{SinkOutside}
 use Rattle.certificate.specs.declared.cert.Cert.{Cert}
@@ -29,13 +29,16 @@ use Rattle.reports.specs.Verdicts.{yes_text}
 use Rattle.reports.specs.Solved.{bound_text}
 use Rattle.syswcet.specs.declared.words.Command.{Command}
 use Rattle.syswcet.specs.declared.words.Command.TheVariants as command
-use Rattle.syswcet.specs.Inputs.{lone_task, image_limit, oil_limit, IsLoneImage, HasLoneImage, HasTree, LoneImage, LoneCertificate, LoneStates, OilTree}
+use Rattle.syswcet.specs.Inputs.{lone_task, image_limit, oil_limit, IsLoneImage, HasLoneImage, HasTree, LoneImage, LoneCertificate, LoneStates, OilTree, HasSystem}
 use Rattle.syswcet.specs.Solving.{AnswersOutcome}
 use Rattle.syswcet.specs.CheckLone.{verdict_answer, CertificateAnswer, CheckLone}
 use Rattle.syswcet.specs.BoundLone.{AnswersClosed, StatesAnswer, BoundLone}
 use Rattle.syswcet.specs.ShowOil.{HasLayout, ShowOil}
+use Rattle.syswcet.specs.Plants.{timing_limit, HasImage, HasTiming, HasPlant, OilSystem, ElfImage, TimingFile, PlantWithTiming, PlantWithImage, PlantOf}
+use Rattle.syswcet.specs.ShowCode.{code_text, ShowCode}
 use Rattle.syswcet.specs.Commands.{StepsOf}
 use Rattle.syswcet.specs.Headline.{AreBytesOf, SaysTruly, Means}
+use Rattle.syswcet.proofs.Commands.{system_honest, image_honest}
 
 -- the file that is read first
 first_bytes : {F X : Type 0} (outside : F → FilesOutside) (reads : Calls F) (start : F) (name : List ℕ) (limit : ℕ)
@@ -139,6 +142,61 @@ show_oil outside reads start oil text after steps =
           { tree = one.0; is_text = was.fact; sound = shown.1.sound; layout = shown.2 },
     )
 
+-- ---- show code
+
+-- a file that is read later holds what the object told of it at the start
+later_bytes : {F X : Type 0} (outside : F → FilesOutside) (reads : Calls F) (start now : F) (name : List ℕ) (limit : ℕ)
+    (Fact : List ℕ → Result X Refusal → Type 0) (x : X) → (outside now).told ≡ (outside start).told
+    → (was : WasRead (IsCall outside reads) name limit Fact now x) → AreBytesOf outside reads start name was.bytes
+later_bytes outside reads start now name limit Fact x same was = record {
+  before = now;
+  limit = limit;
+  after = was.after;
+  read = was.read;
+  told = λ content told. was.read.tells.content.whole content (ap (λ (t : List ℕ → Option (List ℕ)). t name) same ∙ told);
+}
+
+show_code : {F : Type 0} (outside : F → FilesOutside) (reads : Calls F) (start : F) (oil elf timing text : List ℕ) (after : F)
+    → ShowCode (IsCall outside reads) oil elf timing start (Ok text) after
+    → SaysTruly (AreBytesOf outside reads start) (Some (command.ShowCode oil elf timing)) text
+show_code outside reads start oil elf timing text after steps =
+    let calls = IsCall outside reads in
+    let names : List (List ℕ) = oil ∷ elf ∷ timing ∷ [] in
+    let whole = then_ok (PlantOf calls oil elf timing) (λ plant. Judged (λ given. given ≡ Ok (code_text plant))) start text after steps in
+    let one = then_ok (OilSystem calls oil) (PlantWithImage calls elf timing) start whole.0 whole.1 whole.2 in
+    let tree = then_ok (OilTree calls oil) (λ tree. Judged (HasSystem tree)) start one.0 one.1 one.2 in
+    let was_oil = file_ok calls oil oil_limit HasTree start tree.0 tree.1 tree.2 in
+    let two = then_ok (ElfImage calls elf) (PlantWithTiming calls timing one.0) one.1 whole.0 whole.1 one.3 in
+    let was_elf = file_ok calls elf image_limit HasImage one.1 two.0 two.1 two.2 in
+    let three = then_ok (TimingFile calls timing) (λ t. Judged (HasPlant two.0 one.0 t)) two.1 whole.0 whole.1 two.3 in
+    let was_timing = file_ok calls timing timing_limit HasTiming two.1 three.0 three.1 three.2 in
+    let told_one : (outside one.1).told ≡ (outside start).told = ((system_honest outside reads oil elf timing).leaves start (Ok one.0) one.1 one.2).goes_on.kept in
+    let told_two : (outside two.1).told ≡ (outside start).told = ((image_honest outside reads oil elf timing).leaves one.1 (Ok two.0) two.1 two.2).goes_on.kept ∙ told_one in (
+      was_oil.bytes,
+      first_bytes outside reads start oil oil_limit HasTree tree.0 was_oil,
+      (
+        was_elf.bytes,
+        later_bytes outside reads start one.1 elf image_limit HasImage two.0 told_one was_elf,
+        (
+          was_timing.bytes,
+          later_bytes outside reads start two.1 timing timing_limit HasTiming three.0 told_two was_timing,
+          record {
+            tree = tree.0;
+            is_text = was_oil.fact;
+            system = one.0;
+            system_is = tree.3.1;
+            image = two.0;
+            image_is = was_elf.fact;
+            times = three.0;
+            times_are = was_timing.fact;
+            plant = whole.0;
+            plant_is = three.3.1;
+            shown = cc (whole.3.1);
+          },
+        ),
+      ),
+    )
+
 -- ---- all commands
 
 truly : {F : Type 0} (outside : F → FilesOutside) (reads : Calls F) (start : F) (command : Option Command) (text : List ℕ) (after : F)
@@ -149,6 +207,7 @@ truly outside reads start
 truly outside reads start
     (Some (command.BoundLone image states pivots)) text after steps = bound_lone outside reads start image states pivots text after steps
 truly outside reads start (Some (command.ShowOil oil)) text after steps = show_oil outside reads start oil text after steps
+truly outside reads start (Some (command.ShowCode oil elf timing)) text after steps = show_code outside reads start oil elf timing text after steps
 
 stepped : {F : Type 0} (calls : Calls F) (command : Option Command) (start : F) (answered : Result (List ℕ) Halt) (text : List ℕ) (after : F)
     → answered ≡ Ok text

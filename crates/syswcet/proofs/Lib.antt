@@ -2,3 +2,4 @@ pub mod Numbers
 pub mod Solved
 pub mod Commands
 pub mod Headline
+pub mod Halts

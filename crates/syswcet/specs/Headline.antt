@@ -3,6 +3,7 @@ use Rattle.std.specs.Prelude.{◌≡◌, ℕ, List, pos, Option, Some, None, Ok}
 use Rattle.wcet_io.specs.Files.{FilesOutside, Told}
 use Rattle.wcet_io.specs.Sink.{SinkOutside, appended}
 use Rattle.elf_image.specs.Image.{ImageData}
+use Rattle.elf_image.specs.Elf.{elf_of}
 use Rattle.elf_image.specs.Flat.{flat_of}
 use Rattle.whole_rows.specs.Greatest.{IsGreatest}
 use Rattle.lone_image.specs.Forward.{IsForward}
@@ -11,13 +12,20 @@ use Rattle.lone_image.specs.LoneRows.{lone_rows}
 use Rattle.oil_grammar.specs.declared.tree.Tree.{Tree}
 use Rattle.oil_grammar.specs.Grammar.{IsTextOf}
 use Rattle.oil_grammar.specs.Layout.{layout_of}
-use Rattle.oil_model.specs.Meaning.{model_fault_of}
+use Rattle.oil_model.specs.declared.system.System.{System}
+use Rattle.oil_model.specs.Meaning.{IsSystemOf, model_fault_of}
+use Rattle.json_fields.specs.Files.{IsGiven}
+use Rattle.timing_file.specs.declared.fault.TimingKind.TheVariants as timing_kinds
+use Rattle.timing_file.specs.declared.timing.Timing.{Timing}
+use Rattle.timing_file.specs.Timing.{timing_in}
+use Rattle.wcet_atomic_blocks.specs.Plants.{PlantData, IsPlantOf}
 use Rattle.command_steps.specs.Steps.{Calls, IsCall}
 use Rattle.reports.specs.Verdicts.{yes_text}
 use Rattle.reports.specs.Solved.{bound_text}
 use Rattle.syswcet.specs.declared.words.Command.{Command}
 use Rattle.syswcet.specs.declared.words.Command.TheVariants as command
 use Rattle.syswcet.specs.Inputs.{lone_task}
+use Rattle.syswcet.specs.ShowCode.{code_text}
 
 -- The bytes are those of the file with this name: a call of `read` gave them, and where the object tells at the start what
 -- the name holds, it tells them.
@@ -50,6 +58,20 @@ pub record ShowsLayout (bytes text : List ℕ) : Type 0 where
   pub sound : model_fault_of tree ≡ None
   pub layout : text ≡ layout_of tree
 
+-- The files are a system, its image and its timing, and the text has the numbers of the code graph that they have together.
+pub record ShowsCode (oil elf timing text : List ℕ) : Type 0 where
+  pub tree : Tree
+  pub is_text : IsTextOf tree oil
+  pub system : System
+  pub system_is : IsSystemOf tree system
+  pub image : ImageData
+  pub image_is : elf_of elf ≡ Ok image
+  pub times : Timing
+  pub times_are : IsGiven timing_kinds.Json timing_in timing (Ok times)
+  pub plant : PlantData
+  pub plant_is : IsPlantOf image system times plant
+  pub shown : text ≡ code_text plant
+
 -- What the text of each command means of the bytes of its files.
 abbrev pub SaysTruly : (List ℕ → List ℕ → Type 0) → Option Command → List ℕ → Type 0
 SaysTruly Bytes None text = ⊥
@@ -58,6 +80,8 @@ SaysTruly Bytes (Some (command.CheckLone image certificate)) text =
 SaysTruly Bytes (Some (command.BoundLone image states pivots)) text =
     (bound : ℕ) × (text ≡ bound_text lone_task bound) × ((bytes : List ℕ) × Bytes image bytes × IsGreatestOf bytes bound × BoundsImage bytes bound)
 SaysTruly Bytes (Some (command.ShowOil oil)) text = (bytes : List ℕ) × Bytes oil bytes × ShowsLayout bytes text
+SaysTruly Bytes (Some (command.ShowCode oil elf timing)) text =
+    (o : List ℕ) × Bytes oil o × ((e : List ℕ) × Bytes elf e × ((t : List ℕ) × Bytes timing t × ShowsCode o e t text))
 
 -- A text was written whole, and it says what the command is for.
 abbrev pub Means : {F : Type 0} → (F → FilesOutside) → Calls F → F → Option Command → SinkOutside → SinkOutside → Type 0

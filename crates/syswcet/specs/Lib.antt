@@ -4,5 +4,7 @@ pub mod Solving
 pub mod CheckLone
 pub mod BoundLone
 pub mod ShowOil
+pub mod Plants
+pub mod ShowCode
 pub mod Commands
 pub mod Headline

@@ -5,7 +5,7 @@ use Rattle.std.specs.List.{list_all}
 use Rattle.std.specs.Option.{option_map}
 use Rattle.std.specs.Str.Parse.{digits_value}
 use Rattle.syswcet.specs.declared.words.Command.{Command}
-use Rattle.syswcet.specs.declared.words.Command.TheVariants.{CheckLone, BoundLone, ShowOil}
+use Rattle.syswcet.specs.declared.words.Command.TheVariants.{CheckLone, BoundLone, ShowOil, ShowCode}
 
 -- the word at a place, counted from 0
 abbrev pub word : List (List ℕ) → ℕ → List ℕ
@@ -43,11 +43,15 @@ bound_lone words pivots = BoundLone (word words 2) (word words 3) pivots
 abbrev pub show_oil : List (List ℕ) → Command
 show_oil words = ShowOil (word words 2)
 
+abbrev pub show_code : List (List ℕ) → Command
+show_code words = ShowCode (word words 2) (word words 3) (word words 4)
+
 -- What the words ask for:
 --
 --   check lone IMAGE CERT
 --   bound lone IMAGE STATES [--pivots N]
 --   show oil OIL
+--   show code OIL ELF TIMING
 abbrev pub command_of : List (List ℕ) → Option Command
 command_of words =
     if is_shape words (codes "check") (codes "lone") 4 then Some (check_lone words)
@@ -55,7 +59,8 @@ command_of words =
     else (if is_shape words (codes "bound") (codes "lone") 6 && bytes_eq (word words 4) (codes "--pivots")
     then option_map (bound_lone words) (pivots_of (word words 5))
     else (if is_shape words (codes "show") (codes "oil") 3 then Some (show_oil words)
-    else None)))
+    else (if is_shape words (codes "show") (codes "code") 5 then Some (show_code words)
+    else None))))
 
 check_lone_case : command_of (codes "check" ∷ codes "lone" ∷ codes "a" ∷ codes "c" ∷ []) ≡ Some (CheckLone (codes "a") (codes "c"))
 check_lone_case = refl

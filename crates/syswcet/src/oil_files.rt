@@ -1,7 +1,8 @@
 //! OIL files as inputs.
 ghost use Rattle.std.specs.Prelude.{IfOk, IfErr};
 ghost use Rattle.oil_grammar.specs.Faults.{IsRefusalOf};
-ghost use Rattle.oil_grammar.specs.Grammar.{IsTextOf};
+ghost use Rattle.oil_grammar.specs.Grammar.{IsTextOf, IsWellFormed};
+ghost use Rattle.oil_model.specs.System.{IsLawful};
 ghost use Rattle.command_steps.specs.Steps.{IsCall, Says};
 ghost use Rattle.syswcet.specs.Inputs.{OilTree, HasTree, HasSystem};
 
@@ -17,7 +18,8 @@ const OIL_LIMIT: usize = 1_048_576;
 
 /// The tree of the OIL file.
 pub fn oil_tree<F: Files>(alloc: Global, name: &Text, files: &mut F) -> Result<Tree, Halt>
-    ensures { OilTree (IsCall F.outside F.reads) name.now files.old result files.new }
+    ensures steps { OilTree (IsCall F.outside F.reads) name.now files.old result files.new }
+    ensures formed { IfOk result IsWellFormed }
 {
     let bytes = read_file(alloc, name, OIL_LIMIT, files)?;
     tree_in(alloc, &bytes)
@@ -25,7 +27,8 @@ pub fn oil_tree<F: Files>(alloc: Global, name: &Text, files: &mut F) -> Result<T
 
 /// The tree that the bytes have.
 fn tree_in(alloc: Global, bytes: &Bytes) -> Result<Tree, Halt>
-    ensures { Says (HasTree bytes.now) result }
+    ensures answer { Says (HasTree bytes.now) result }
+    ensures formed { IfOk result IsWellFormed }
 {
     match tree_of(alloc, bytes) {
         Ok(tree) => Ok(tree),
@@ -43,7 +46,8 @@ fn tree_of(alloc: Global, bytes: &Bytes) -> Result<Tree, OilFault>
 
 /// The system that the tree stands for.
 pub fn system_of(alloc: Global, tree: &Tree) -> Result<System, Halt>
-    ensures { Says (HasSystem tree.now) result }
+    ensures answer { Says (HasSystem tree.now) result }
+    ensures lawful { IsWellFormed tree.now → IfOk result IsLawful }
 {
     match model(alloc, tree) {
         Ok(system) => Ok(system),

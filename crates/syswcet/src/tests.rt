@@ -57,6 +57,36 @@ const ONE_PRIORITY_FOR_TWO: &str =
 const INTERNAL_AND_NOT_PREEMPTABLE: &str =
     "OIL_VERSION = \"2.5\"; CPU Demo { APPMODE Main; COUNTER C { MINCYCLE = 1; }; RESOURCE G { RESOURCEPROPERTY = INTERNAL; }; TASK T { RESOURCE = G; PRIORITY = 1; SCHEDULE = NON; }; TASK H { RESOURCE = G; PRIORITY = 2; }; };";
 
+/// A task T that is autostarted, and a task H that an alarm activates.
+const TWO_TASKS: &str =
+    "OIL_VERSION = \"2.5\"; CPU Demo { APPMODE Main; COUNTER C { MINCYCLE = 1; }; TASK T { PRIORITY = 1; AUTOSTART = TRUE { APPMODE = Main; }; }; TASK H { PRIORITY = 2; }; ALARM Tick { COUNTER = C; ACTION = ACTIVATETASK { TASK = H; }; AUTOSTART = TRUE { CYCLETIME = 1000; APPMODE = Main; }; }; };";
+
+/// Their code, from 0x100 and from 0x110 on: `li t0, 7` in T alone, and then TerminateTask.
+#[rattlefmt::skip]
+const TWO_TASKS_ELF: [u8; 360] = [
+    0x7f, 0x45, 0x4c, 0x46, 0x01, 0x01, 0x01, 0x00, 0x00, 0x00, 0x00, 0x00, 0x00, 0x00, 0x00, 0x00, 0x02, 0x00, 0xf3, 0x00, 0x01, 0x00, 0x00, 0x00,
+    0x00, 0x01, 0x00, 0x00, 0x34, 0x00, 0x00, 0x00, 0xc8, 0x00, 0x00, 0x00, 0x00, 0x00, 0x00, 0x00, 0x34, 0x00, 0x20, 0x00, 0x01, 0x00, 0x28, 0x00,
+    0x04, 0x00, 0x03, 0x00, 0x01, 0x00, 0x00, 0x00, 0x54, 0x00, 0x00, 0x00, 0x00, 0x01, 0x00, 0x00, 0x00, 0x01, 0x00, 0x00, 0x1c, 0x00, 0x00, 0x00,
+    0x1c, 0x00, 0x00, 0x00, 0x05, 0x00, 0x00, 0x00, 0x04, 0x00, 0x00, 0x00, 0x93, 0x02, 0x70, 0x00, 0x13, 0x05, 0x00, 0x00, 0x93, 0x08, 0x20, 0x00,
+    0x73, 0x00, 0x00, 0x00, 0x13, 0x05, 0x00, 0x00, 0x93, 0x08, 0x20, 0x00, 0x73, 0x00, 0x00, 0x00, 0x00, 0x00, 0x00, 0x00, 0x00, 0x00, 0x00, 0x00,
+    0x00, 0x00, 0x00, 0x00, 0x00, 0x00, 0x00, 0x00, 0x17, 0x00, 0x00, 0x00, 0x00, 0x01, 0x00, 0x00, 0x00, 0x00, 0x00, 0x00, 0x12, 0x00, 0x01, 0x00,
+    0x1e, 0x00, 0x00, 0x00, 0x10, 0x01, 0x00, 0x00, 0x00, 0x00, 0x00, 0x00, 0x12, 0x00, 0x01, 0x00, 0x00, 0x2e, 0x74, 0x65, 0x78, 0x74, 0x00, 0x2e,
+    0x73, 0x79, 0x6d, 0x74, 0x61, 0x62, 0x00, 0x2e, 0x73, 0x74, 0x72, 0x74, 0x61, 0x62, 0x00, 0x54, 0x61, 0x73, 0x6b, 0x5f, 0x54, 0x00, 0x54, 0x61,
+    0x73, 0x6b, 0x5f, 0x48, 0x00, 0x00, 0x00, 0x00, 0x00, 0x00, 0x00, 0x00, 0x00, 0x00, 0x00, 0x00, 0x00, 0x00, 0x00, 0x00, 0x00, 0x00, 0x00, 0x00,
+    0x00, 0x00, 0x00, 0x00, 0x00, 0x00, 0x00, 0x00, 0x00, 0x00, 0x00, 0x00, 0x00, 0x00, 0x00, 0x00, 0x00, 0x00, 0x00, 0x00, 0x00, 0x00, 0x00, 0x00,
+    0x01, 0x00, 0x00, 0x00, 0x01, 0x00, 0x00, 0x00, 0x06, 0x00, 0x00, 0x00, 0x00, 0x01, 0x00, 0x00, 0x54, 0x00, 0x00, 0x00, 0x1c, 0x00, 0x00, 0x00,
+    0x00, 0x00, 0x00, 0x00, 0x00, 0x00, 0x00, 0x00, 0x04, 0x00, 0x00, 0x00, 0x00, 0x00, 0x00, 0x00, 0x07, 0x00, 0x00, 0x00, 0x02, 0x00, 0x00, 0x00,
+    0x00, 0x00, 0x00, 0x00, 0x00, 0x00, 0x00, 0x00, 0x70, 0x00, 0x00, 0x00, 0x30, 0x00, 0x00, 0x00, 0x03, 0x00, 0x00, 0x00, 0x01, 0x00, 0x00, 0x00,
+    0x04, 0x00, 0x00, 0x00, 0x10, 0x00, 0x00, 0x00, 0x0f, 0x00, 0x00, 0x00, 0x03, 0x00, 0x00, 0x00, 0x00, 0x00, 0x00, 0x00, 0x00, 0x00, 0x00, 0x00,
+    0xa0, 0x00, 0x00, 0x00, 0x25, 0x00, 0x00, 0x00, 0x00, 0x00, 0x00, 0x00, 0x00, 0x00, 0x00, 0x00, 0x01, 0x00, 0x00, 0x00, 0x00, 0x00, 0x00, 0x00,
+];
+
+const TWO_TASKS_TIMES: &str =
+    r#"{"version":1,"classes":{"default":1},"services":{"default":20},"alarm":30,"interrupt":10,"ticks":{"C":1}}"#;
+
+const NO_TICKS: &str =
+    r#"{"version":1,"classes":{"default":1},"services":{"default":20},"alarm":30,"interrupt":10}"#;
+
 /// Which calls fail.
 #[derive(Clone, Copy)]
 enum Failing {
@@ -66,55 +96,35 @@ enum Failing {
     Both,
 }
 
-/// Runs the words over the image `a`, its first 15 bytes `b`, the image without its last word, `d`, and the
-/// text beside the image, which both `c` and `k` hold.
+/// Runs the words, which a space parts, over the files of these names.
 fn outcome(
     alloc: Global,
-    words: &[&str],
-    beside: &str,
+    words: &str,
+    held: &[(&str, &[u8])],
     failing: Failing,
 ) -> Result<(Status, MemSink), Memory> {
     let mut given = Words::new(alloc);
-    for word in words {
+    for word in words.split(' ') {
         given.push(Text::from_str(alloc, word)?)?;
     }
     let mut files = MemFiles::new(alloc);
     let mut out = MemSink::new(alloc);
-    files.put(
-        Text::from_str(alloc, "a")?,
-        Bytes::from_slice(alloc, &IMAGE)?,
-    )?;
-    files.put(
-        Text::from_str(alloc, "b")?,
-        Bytes::from_slice(alloc, &IMAGE[..15])?,
-    )?;
-    files.put(
-        Text::from_str(alloc, "d")?,
-        Bytes::from_slice(alloc, &IMAGE[..12])?,
-    )?;
-    for name in ["c", "k"] {
-        files.put(
-            Text::from_str(alloc, name)?,
-            Bytes::from_slice(alloc, beside.as_bytes())?,
-        )?;
+    for (name, content) in held {
+        let name = Text::from_str(alloc, *name)?;
+        files.put(name, Bytes::from_slice(alloc, *content)?)?;
     }
-    fail(&mut files, &mut out, failing)?;
-    let status = run(alloc, &given, &mut files, &mut out);
-    Ok((status, out))
-}
-
-/// Lets the first read, the first write or both fail.
-fn fail(files: &mut MemFiles, out: &mut MemSink, failing: Failing) -> Result<(), Memory> {
     if matches!(failing, Failing::Read | Failing::Both) {
         files.fail_at(0)?;
     }
     if matches!(failing, Failing::Write | Failing::Both) {
         out.fail_at(0)?;
     }
-    Ok(())
+    let status = run(alloc, &given, &mut files, &mut out);
+    Ok((status, out))
 }
 
-/// Runs the words, which a space parts, as `outcome` does, and compares the status and what was written.
+/// Runs the words over the image `a`, its first 15 bytes `b`, the image without its last word, `d`, and the
+/// text beside the image, which both `c` and `k` hold, and compares the status and what was written.
 fn run_row(
     rt: &impl Abort,
     alloc: Global,
@@ -124,11 +134,14 @@ fn run_row(
     text: &str,
     status: Status,
 ) -> Result<(), Memory> {
-    let mut given = Vec::new(alloc);
-    for word in words.split(' ') {
-        given.push(word)?;
-    }
-    let (ended, out) = outcome(alloc, given.as_slice(), beside, failing)?;
+    let held = [
+        ("a", IMAGE.as_slice()),
+        ("b", &IMAGE[..15]),
+        ("d", &IMAGE[..12]),
+        ("c", beside.as_bytes()),
+        ("k", beside.as_bytes()),
+    ];
+    let (ended, out) = outcome(alloc, words, &held, failing)?;
     assert_eq!(rt; ended, status);
     assert_eq!(rt; out.written(), text.as_bytes());
     Ok(())
@@ -191,16 +204,7 @@ fn the_greatest_value_of_the_rows_is_found(rt: HostRuntime) -> Result<(), Fail> 
 
 /// The answer of `show oil a`, where `a` has this text.
 fn shown(alloc: Global, text: &[u8], failing: Failing) -> Result<(Status, MemSink), Memory> {
-    let mut given = Words::new(alloc);
-    for word in ["show", "oil", "a"] {
-        given.push(Text::from_str(alloc, word)?)?;
-    }
-    let mut files = MemFiles::new(alloc);
-    let mut out = MemSink::new(alloc);
-    files.put(Text::from_str(alloc, "a")?, Bytes::from_slice(alloc, text)?)?;
-    fail(&mut files, &mut out, failing)?;
-    let status = run(alloc, &given, &mut files, &mut out);
-    Ok((status, out))
+    outcome(alloc, "show oil a", &[("a", text)], failing)
 }
 
 #[test]
@@ -248,6 +252,33 @@ fn rows_without_a_greatest_value_are_refused(rt: HostRuntime) -> Result<(), Fail
             assert_eq!(rt; refusal.text.as_slice(), b"unbounded\n1 1\n".as_slice());
         }
         _ => return Err("the rows have no greatest value")?,
+    }
+    Ok(())
+}
+
+#[test]
+#[rattlefmt::skip]
+fn the_code_of_a_system_is_shown(rt: HostRuntime) -> Result<(), Fail> {
+    for (words, text, status) in [
+        ("show code oil elf times", "T nodes 4 blocks 1 loops 0\nH nodes 3 blocks 1 loops 0\n", Status::Ok),
+        ("show code oil elf no_ticks", "code - - Name\n", Status::Input),
+        ("show code oil elf oil", "timing Json\n", Status::Input),
+        ("show code oil times elf", "elf Magic\n", Status::Input),
+        ("show code oil half no_ticks", "elf Range\n", Status::Input),
+        ("show code times elf times", "oil line 1 Expected\n", Status::Input),
+        ("show code oil none elf", "read none\n", Status::ReadFault),
+        ("show code oil elf", "words\n", Status::Words),
+    ] {
+        let held = [
+            ("oil", TWO_TASKS.as_bytes()),
+            ("elf", TWO_TASKS_ELF.as_slice()),
+            ("half", &TWO_TASKS_ELF[..180]),
+            ("times", TWO_TASKS_TIMES.as_bytes()),
+            ("no_ticks", NO_TICKS.as_bytes()),
+        ];
+        let (ended, out) = outcome(rt.alloc(), words, &held, Failing::Nothing)?;
+        assert_eq!(rt; ended, status);
+        assert_eq!(rt; out.written(), text.as_bytes());
     }
     Ok(())
 }

@@ -3,7 +3,7 @@ ghost use Rattle.std.specs.Prelude.{◌≡◌, ◌<◌, ◌≤◌, ◌&&◌, nat
 ghost use Rattle.std.specs.Char.{is_ascii_digit};
 ghost use Rattle.std.specs.List.{list_all};
 ghost use Rattle.std.specs.Option.{option_map};
-ghost use Rattle.syswcet.specs.Words.{word, check_lone, bound_lone, show_oil, command_of, is_shape, is_number, number_of, pivots_of};
+ghost use Rattle.syswcet.specs.Words.{word, check_lone, bound_lone, show_oil, show_code, command_of, is_shape, is_number, number_of, pivots_of};
 
 use listed::Memory;
 use std::alloc::Global;
@@ -33,6 +33,12 @@ pub enum Command {
     ShowOil {
         oil: Text,
     },
+    /// `show code OIL ELF TIMING` tells how many nodes, blocks and loops each context has.
+    ShowCode {
+        oil: Text,
+        elf: Text,
+        timing: Text,
+    },
 }
 
 /// The command of the words; `None` exactly where they have no shape.
@@ -50,6 +56,9 @@ pub fn command_of(alloc: Global, words: &Words) -> Result<Option<Command>, Memor
     }
     if is_shape(words, "show", "oil", 3) {
         return show_oil(alloc, words);
+    }
+    if is_shape(words, "show", "code", 5) {
+        return show_code(alloc, words);
     }
     Ok(None)
 }
@@ -88,6 +97,16 @@ fn show_oil(alloc: Global, words: &Words) -> Result<Option<Command>, Memory>
 {
     let oil = word(alloc, words, 2)?;
     Ok(Some(Command::ShowOil { oil }))
+}
+
+fn show_code(alloc: Global, words: &Words) -> Result<Option<Command>, Memory>
+    requires { length words.now ≡ 5 }
+    ensures { IfOk result (λ command. command ≡ Some (show_code words.now)) }
+{
+    let oil = word(alloc, words, 2)?;
+    let elf = word(alloc, words, 3)?;
+    let timing = word(alloc, words, 4)?;
+    Ok(Some(Command::ShowCode { oil, elf, timing }))
 }
 
 /// The word at a place, counted from 0.

@@ -13,3 +13,8 @@ pub returns-in-BoundLone : goal.returns-in-BoundLone
 returns-in-BoundLone g c =
     let P : Command → Type 0 = λ k. StepsOf (IsCall g.F.Files.outside g.F.Files.reads) (Some k) c.args.files.now c.bound_lone.result c.bound_lone.new.files in
     subst P (sym c.in-BoundLone.is) c.bound_lone.ensures
+
+pub returns-in-ShowCode : goal.returns-in-ShowCode
+returns-in-ShowCode g c =
+    let P : Command → Type 0 = λ k. StepsOf (IsCall g.F.Files.outside g.F.Files.reads) (Some k) c.args.files.now c.show_code.result c.show_code.new.files in
+    subst P (sym c.in-ShowCode.is) c.show_code.ensures
