@@ -1,5 +1,5 @@
 -- Loops and extras that are read are ranges of code words, and at most 256.
-use Rattle.std.proofs.Common.{◌≡◌, ℕ, ◌%◌, ◌^◌, ◌<◌, ◌≤◌, cond, List, length, Some, None, Result, Ok, Err, subst, arith, eqb}
+use Rattle.std.proofs.Common.{◌≡◌, ℕ, ◌%◌, ◌^◌, ◌<◌, ◌≤◌, cond, List, [], length, Option, Some, None, Result, Ok, Err, subst, arith, eqb}
 use Rattle.std.proofs.lemmas.Option.{same_Some}
 use Rattle.std.specs.Prelude.{IfOk, ok_or, codes, nat_le}
 use Rattle.std.specs.List.{AllByRecursion}
@@ -20,7 +20,7 @@ use Rattle.timing_file.specs.declared.ranges.Ranged.{Ranged}
 use Rattle.timing_file.specs.declared.timing.Extra.{Extra}
 use Rattle.timing_file.specs.declared.timing.Loop.{Loop}
 use Rattle.timing_file.specs.Ranges.{word_in, word_at, count_in, count_at, ranged_at}
-use Rattle.timing_file.specs.Timing.{list_with, loop_of, extra_of}
+use Rattle.timing_file.specs.Timing.{or_empty, list_with, loop_of, extra_of, loops_at, extras_at}
 use Rattle.timing_file.specs.Lawful.{AreWords, IsLoop, IsExtra}
 use Rattle.timing_file.specs.Working.InRange.{AreFew}
 
@@ -69,14 +69,18 @@ both_ok : {A : Type 0} (P : A → Type 0) (r : Result (List A) TimingKind) (n : 
 both_ok P (Ok xs) n few each same = record { few = omega (arith, few, same); each = All-from_recursion P xs each }
 both_ok P (Err kind) n few each same = tt
 
-few_of : {A : Type 0} (P : A → Type 0) (gives : Data → Result A TimingKind) → ((d : Data) → IfOk (gives d) P) → (d : Data) → IfOk (list_with gives d) (AreFew P)
+few_of : {A : Type 0} (P : A → Type 0) (gives : Data → Result A TimingKind) → ((d : Data) → IfOk (gives d) P) → (d : Data) → IfOk (list_with (λ place. gives) d) (AreFew P)
 few_of P gives each d =
     IfOk-step (λ ds. length ds ≤ 256) (AreFew P) (ok_or (list_up_to 256 d) Range) (all_of gives)
     (IfOk-ok_or (λ ds. length ds ≤ 256) (list_up_to 256 d) Range (λ ds is. list_up_to-length 256 d ds is))
     (λ ds few. both_ok P (all_of gives ds) (length ds) few (IfOk-all_of gives P each 0 ds) (IfOk-each_from_length (λ place. gives) 0 ds))
 
-pub few_loops : (d : Data) (r : Result (List Loop) (Fault TimingKind)) → Gives r (list_with loop_of d) → IfOk r (AreFew IsLoop)
-few_loops d r gives = IfOk-from_Gives (AreFew IsLoop) r (list_with loop_of d) gives (few_of IsLoop loop_of loop-is d)
+few_at : {A : Type 0} (P : A → Type 0) (gives : Data → Result A TimingKind) → ((d : Data) → IfOk (gives d) P) → (o : Option Data) → IfOk (or_empty (list_with (λ place. gives)) o) (AreFew P)
+few_at P gives each None = record { few = omega arith; each = All-from_recursion P [] tt }
+few_at P gives each (Some d) = few_of P gives each d
 
-pub few_extras : (d : Data) (r : Result (List Extra) (Fault TimingKind)) → Gives r (list_with extra_of d) → IfOk r (AreFew IsExtra)
-few_extras d r gives = IfOk-from_Gives (AreFew IsExtra) r (list_with extra_of d) gives (few_of IsExtra extra_of extra-is d)
+pub few_loops : (d : Data) (r : Result (List Loop) (Fault TimingKind)) → Gives r (loops_at d) → IfOk r (AreFew IsLoop)
+few_loops d r gives = IfOk-from_Gives (AreFew IsLoop) r (loops_at d) gives (few_at IsLoop loop_of loop-is (get (codes "loops") d))
+
+pub few_extras : (d : Data) (r : Result (List Extra) (Fault TimingKind)) → Gives r (extras_at d) → IfOk r (AreFew IsExtra)
+few_extras d r gives = IfOk-from_Gives (AreFew IsExtra) r (extras_at d) gives (few_at IsExtra extra_of extra-is (get (codes "extra") d))

@@ -3,7 +3,7 @@
 use Rattle.std.specs.Prelude.{ℕ, ◌-◌, ◌^◌, ◌%◌, List, [], ◌∷◌, map, ◌&&◌, Bool, ◌==◌, nat_le, codes, if◌then◌else◌, Option, Some, None, ok_or, Result, Ok, Err}
 use Rattle.serde_json.specs.Data.{Data, Members, no_members, member}
 use Rattle.serde_json.specs.Find.{get, as_object}
-use Rattle.listed.specs.Lists.{all_of, differ}
+use Rattle.listed.specs.Lists.{each_from, differ}
 use Rattle.listed.specs.Steps.{◌>>=◌}
 use Rattle.json_fields.specs.Lists.{list_up_to}
 use Rattle.json_fields.specs.Numbers.{whole_in}
@@ -53,15 +53,18 @@ loop_of d = ok_or (ranged_at (codes "bound") d) Range >>= λ r. Ok (record { fro
 abbrev pub extra_of : Data → Result Extra TimingKind
 extra_of d = ok_or (ranged_at (codes "cycles") d) Range >>= λ r. Ok (record { from = r.from; to = r.to; cycles = r.number })
 
--- at most 256 in a list
-abbrev pub list_with : {A : Type 0} → (Data → Result A TimingKind) → Data → Result (List A) TimingKind
-list_with gives d = ok_or (list_up_to 256 d) Range >>= all_of gives
+-- at most 256 in a list, each by what it gives at its place
+abbrev pub list_with : {A : Type 0} → (ℕ → Data → Result A TimingKind) → Data → Result (List A) TimingKind
+list_with gives d = ok_or (list_up_to 256 d) Range >>= each_from gives 0
+
+abbrev pub list_at : {A : Type 0} → (ℕ → Data → Result A TimingKind) → List ℕ → Data → Result (List A) TimingKind
+list_at gives key d = or_empty (list_with gives) (get key d)
 
 abbrev pub loops_at : Data → Result (List Loop) TimingKind
-loops_at d = or_empty (list_with loop_of) (get (codes "loops") d)
+loops_at d = list_at (λ place. loop_of) (codes "loops") d
 
 abbrev pub extras_at : Data → Result (List Extra) TimingKind
-extras_at d = or_empty (list_with extra_of) (get (codes "extra") d)
+extras_at d = list_at (λ place. extra_of) (codes "extra") d
 
 -- ---- the whole
 

@@ -3,16 +3,16 @@
 ghost use Rattle.std.specs.Prelude.{◌≡◌, IfOk};
 ghost use Rattle.listed.specs.Faults.{Gives};
 ghost use Rattle.serde_json.specs.View.{view, members_view};
-ghost use Rattle.timing_file.specs.Lawful.{AreNumbers, IsLoop, IsExtra};
+ghost use Rattle.timing_file.specs.Lawful.{AreNumbers};
 ghost use Rattle.timing_file.specs.Timing as words;
-ghost use Rattle.timing_file.specs.Working.InRange.{AreFew, IsInRange};
+ghost use Rattle.timing_file.specs.Working.InRange.{IsInRange};
 
 use crate::fault::{TimingFault, TimingKind};
 use crate::ranges::ranged_at;
 use crate::tables::costs_of;
-use crate::timing::{Extra, Extras, Loop, Loops, Name, NamedNumber, NamedNumbers, Timing};
+use crate::timing::{Extra, Loop, Name, NamedNumber, NamedNumbers, Timing};
 use json_fields::{Format, each, list_up_to, whole_in};
-use listed::{Fault, Memory};
+use listed::{Fault, Listed, Memory};
 use serde_json::{Map, Value};
 use std::alloc::Global;
 
@@ -76,8 +76,8 @@ pub(crate) fn timing_of(alloc: Global, value: &Value) -> Result<Timing, TimingFa
     let costs = costs_of(value).ok_or(OUT_OF_RANGE)?;
     let ticks = numbers_at(alloc, value, "ticks")?;
     let distances = numbers_at(alloc, value, "distances")?;
-    let loops = loops_at(alloc, value)?;
-    let extra = extras_at(alloc, value)?;
+    let loops = list_at(alloc, &LoopFormat, value, "loops")?;
+    let extra = list_at(alloc, &ExtraFormat, value, "extra")?;
     Ok(Timing {
         classes: costs.classes,
         services: costs.services,
@@ -139,36 +139,32 @@ fn number_in(value: &Value) -> Option<u32>
     Some(number as u32)
 }
 
-fn loops_at(alloc: Global, value: &Value) -> Result<Loops, TimingFault>
-    ensures value { Gives result (words.loops_at (view value.now)) }
-    ensures range { IfOk result (AreFew IsLoop) }
+/// What each member of the list at the key is, or an empty list where there is no such key.
+fn list_at<F: Format<Kind = TimingKind>>(
+    alloc: Global,
+    format: &F,
+    value: &Value,
+    key: &str,
+) -> Result<Listed<F::Item>, TimingFault>
+where
+    F::Item: Drop,
+    ensures { Gives result (words.list_at (F.gives format.now) key.now (view value.now)) }
 {
-    match value.get("loops") {
-        Some(list) => loops_in(alloc, list),
-        None => Ok(Loops::new(alloc)),
+    match value.get(key) {
+        Some(list) => list_in(alloc, format, list),
+        None => Ok(Listed::new(alloc)),
     }
 }
 
-fn loops_in(alloc: Global, list: &Value) -> Result<Loops, TimingFault>
-    ensures { Gives result (words.list_with words.loop_of (view list.now)) }
+fn list_in<F: Format<Kind = TimingKind>>(
+    alloc: Global,
+    format: &F,
+    list: &Value,
+) -> Result<Listed<F::Item>, TimingFault>
+where
+    F::Item: Drop,
+    ensures { Gives result (words.list_with (F.gives format.now) (view list.now)) }
 {
     let values = list_up_to(list, MOST_RANGES).ok_or(OUT_OF_RANGE)?;
-    each(alloc, &LoopFormat, values)
-}
-
-fn extras_at(alloc: Global, value: &Value) -> Result<Extras, TimingFault>
-    ensures value { Gives result (words.extras_at (view value.now)) }
-    ensures range { IfOk result (AreFew IsExtra) }
-{
-    match value.get("extra") {
-        Some(list) => extras_in(alloc, list),
-        None => Ok(Extras::new(alloc)),
-    }
-}
-
-fn extras_in(alloc: Global, list: &Value) -> Result<Extras, TimingFault>
-    ensures { Gives result (words.list_with words.extra_of (view list.now)) }
-{
-    let values = list_up_to(list, MOST_RANGES).ok_or(OUT_OF_RANGE)?;
-    each(alloc, &ExtraFormat, values)
+    each(alloc, format, values)
 }
