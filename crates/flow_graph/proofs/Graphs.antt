@@ -7,7 +7,7 @@ use Rattle.std.specs.declared.cmp.Ordering.{Ordering}
 use Rattle.std.specs.declared.cmp.Ordering.TheVariants.{Less, Equal, Greater}
 use Rattle.std.specs.Ordering.{ordering_reverse}
 use Rattle.std.proofs.lemmas.Cmp.{tied_itself}
-use Rattle.std.proofs.lemmas.List.{take_more, length-take-le, get_or-take}
+use Rattle.std.proofs.lemmas.List.{take_more}
 use Rattle.std.proofs.lemmas.List.Elements.{All-contains}
 use Rattle.std.proofs.lemmas.Map.Keys.{Less-from_sorted}
 use Rattle.std.proofs.lemmas.Option.{slice_get-get_or, slice_get_within, get_or_from_slice_get}
@@ -23,7 +23,7 @@ use Rattle.flow_graph.specs.declared.node.Node.{Node}
 use Rattle.flow_graph.specs.Graph.{Program, node_cmp, edges_of, entries_from}
 use Rattle.flow_graph.specs.Faults.{fault_of, IsNode, along}
 use Rattle.flow_graph.specs.Judging.{AreAllNodes, IsFirstFault, Answers, whole, earlier, large, faulty}
-use Rattle.flow_graph.specs.Working.Answered.{IsFirstOf}
+use Rattle.flow_graph.specs.Working.Answered.{HaveNone, IsFirstOf}
 use Rattle.flow_graph.specs.Working.Numbered.{AreClosed}
 use Rattle.flow_graph.specs.Working.Reached.{Reaches}
 use Rattle.flow_graph.proofs.Nodes.{node_total, Contains-at, at-Contains, same_some}
@@ -87,7 +87,7 @@ closed_nodes program nodes are faultless = record {
 
 pub first_there : (program : Program) (nodes : List Node) (i : ℕ) (node : Node) (kind : CodeKind) (fault : Option CodeKind) → i < length nodes
     → node ≡ get_or nodes i node
-    → fault ≡ fault_of program node → fault ≡ Some kind → All (λ other. fault_of program other ≡ None) (take i nodes)
+    → fault ≡ fault_of program node → fault ≡ Some kind → HaveNone program nodes i
     → IsFirstOf program nodes (At kind (Some node.context) (Some node.address))
 first_there program nodes i node kind fault lt at is some before = record {
   place = i;
@@ -96,14 +96,27 @@ first_there program nodes i node kind fault lt at is some before = record {
   stands = slice_get-get_or nodes i node lt ∙ ap Some (sym at);
   has = sym is ∙ some;
   is = refl;
-  before = λ k other below stands. subst (λ n. fault_of program n ≡ None) (there k other below stands) (before k other (short k below));
+  before = before;
 }
-  where
-    short : (k : ℕ) → k < i → k < length (take i nodes)
-    short k below = omega (arith, length-take-le i nodes (omega arith))
 
-    there : (k : ℕ) (other : Node) → k < i → slice_get nodes k ≡ Some other → get_or (take i nodes) k other ≡ other
-    there k other below stands = get_or-take i nodes k other below ∙ get_or_from_slice_get nodes k other other stands
+pub none_before : (program : Program) (nodes : List Node) → HaveNone program nodes 0
+none_before program nodes = record { none = λ k other below stands. absurd (omega (arith, below)) }
+
+pub none_so_far : (program : Program) (nodes : List Node) (i : ℕ) (node : Node) (fault : Option CodeKind) → i < length nodes → node ≡ get_or nodes i node
+    → fault ≡ fault_of program node → fault ≡ None → HaveNone program nodes i → HaveNone program nodes (i + 1)
+none_so_far program nodes i node fault lt at is none before = record { none = λ k other below stands. by k other stands (grind (arith, below)) }
+  where
+    by : (k : ℕ) (other : Node) → slice_get nodes k ≡ Some other → (k < i) ⊎ (k ≡ i) → fault_of program other ≡ None
+    by k other stands (inl below) = before.none k other below stands
+    by k other stands (inr here) =
+        let same : node ≡ other = at ∙ get_or_from_slice_get nodes i other node (sym (ap (slice_get nodes) here) ∙ stands) in
+        subst (λ n. fault_of program n ≡ None) same (sym is ∙ none)
+
+pub none_there : (program : Program) (nodes : List Node) (i k : ℕ) (d : Node) → HaveNone program nodes i → length nodes ≤ i → k < length nodes
+    → fault_of program (get_or nodes k d) ≡ None
+none_there program nodes i k d before all within = before.none k (get_or nodes k d) (omega (arith, all, within)) (slice_get-get_or nodes k d within)
+
+pub ruleset first_faults = (first_there, none_before, none_so_far, none_there)
 
 -- a fault that is first in the list is first in order
 first_fault : (program : Program) (nodes : List Node) → AreAllNodes program nodes → (fault : CodeFault) → (first : IsFirstOf program nodes fault)
@@ -146,7 +159,7 @@ first_fault program nodes are fault first = record {
     earlier_node other less at = by (side at.0)
       where
         by : (at.0 < first.place) ⊎ (first.place ≤ at.0) → fault_of program other ≡ None
-        by (inl below) = first.before at.0 other below at.2
+        by (inl below) = first.before.none at.0 other below at.2
         by (inr above) = absurd (apart at.0 other at.2 less (above_or_there at.0 above))
 
 -- ---- Answers

@@ -60,7 +60,8 @@ loaded : (register : ℕ) (insn : Insn) (word place : ℕ) (regs : List ℕ) (me
     → Loaded regs effect.registers register word
 loaded register insn word place regs memory device effect above below are load e =
     let is : insn ≡ Imm Addi register 0 load.imm = same_Some insn (Imm Addi register 0 load.imm) load.is in
-    let does : executed (Imm Addi register 0 load.imm) place regs memory device ≡ Some effect = subst (λ (i : Insn). executed i place regs memory device ≡ Some effect) is e in
+    let does : executed (Imm Addi register 0 load.imm) place regs memory device ≡ Some effect =
+    subst (λ (i : Insn). executed i place regs memory device ≡ Some effect) is e in
     let value = imm_result Addi (value_of regs 0) load.imm in
     let after : effect.registers ≡ with_value regs register value = registers_of _ effect does in
     let count : length regs ≡ 32 = are.count in
@@ -84,17 +85,21 @@ pub onward_known : (code : ℕ → Option Insn) (place : ℕ) (insn : Insn) (reg
 onward_known code place insn regs memory device effect fits at does are among known = record {
   second = λ s e.
       let words = service_words code (following (following place)) s e in
-      let back : preceding (preceding (following (following place))) ≡ place = ap preceding (preceding-following (following place) (following_below place)) ∙ preceding-following place fits in
-      (loaded 10 insn s.argument place regs memory device effect (lit< tt) (lit< tt) are (moved_load code place _ 10 s.argument insn at back words.first) does).same;
+      let back : preceding (preceding (following (following place))) ≡ place = ap preceding (preceding-following (following place) (following_below place))
+      ∙ preceding-following place fits in
+      (loaded 10 insn s.argument place regs memory device effect (lit< tt) (lit< tt) are (moved_load code place _ 10 s.argument insn at back words.first)
+      does).same;
   third = λ s e.
       let words = service_words code (following place) s e in
-      let load = loaded 17 insn s.number place regs memory device effect (lit< tt) (lit< tt) are (moved_load code place _ 17 s.number insn at (preceding-following place fits) words.second) does in
+      let load = loaded 17 insn s.number place regs memory device effect (lit< tt) (lit< tt) are
+      (moved_load code place _ 17 s.number insn at (preceding-following place fits) words.second) does in
       (load.others 10 ten_apart ∙ known.second s e, load.same);
   pair = λ p e.
       let words = pair_words code (following place) p e in
       let back : preceding (following place) ≡ place = preceding-following place fits in
       let is : insn ≡ Auipc p.register words.imm = same_Some insn (Auipc p.register words.imm) (sym at ∙ ap code (sym back) ∙ words.first_is) in
-      let here : executed (Auipc p.register words.imm) place regs memory device ≡ Some effect = subst (λ (i : Insn). executed i place regs memory device ≡ Some effect) is does in
+      let here : executed (Auipc p.register words.imm) place regs memory device ≡ Some effect =
+      subst (λ (i : Insn). executed i place regs memory device ≡ Some effect) is does in
       let register : p.register < 32 = subst RegistersFit is among in
       let count : length regs ≡ 32 = are.count in
       let above : 0 < p.register = words.not_zero in
@@ -110,7 +115,8 @@ known_after : (program : Program) (node : Node) (turn : Turn) (i address : ℕ) 
     → PlaceFacts program.code (following node.address) regs → PlaceFacts program.code address regs
 known_after program node Onward i address sites regs middle h reach onward = subst (λ (a : ℕ). PlaceFacts program.code a regs) (sym h.0) onward
 known_after program node turn i address sites regs middle h reach onward =
-    let clear : is_middle program.code reach.next.address ≡ false = not_middle program (edges_by (service_at program.code node.address) node turn) i reach.edge reach.next middle reach.leaves reach.arrives in
+    let clear : is_middle program.code reach.next.address ≡ false =
+    not_middle program (edges_by (service_at program.code node.address) node turn) i reach.edge reach.next middle reach.leaves reach.arrives in
     nothing_known program.code address regs (ap (is_middle program.code) (sym reach.address_is) ∙ clear)
 
 -- ---- The law
@@ -120,7 +126,8 @@ pair_target : (code : ℕ → Option Insn) (place : ℕ) (insn : Insn) (regs : L
     → (p : Pair) → pair_at code place ≡ Some p → (rd rs1 : ℕ) (offset : ℤ) → insn ≡ Jalr rd rs1 offset → jump_target (value_of regs rs1) offset ≡ p.target
 pair_target code place insn regs at known p e rd rs1 offset is =
     let words = pair_words code place p e in
-    let same : Jalr rd rs1 offset ≡ Jalr words.rd p.register words.offset = sym is ∙ same_Some insn (Jalr words.rd p.register words.offset) (sym at ∙ words.second_is) in
+    let same : Jalr rd rs1 offset ≡ Jalr words.rd p.register words.offset = sym is
+    ∙ same_Some insn (Jalr words.rd p.register words.offset) (sym at ∙ words.second_is) in
     let base : rs1 ≡ p.register = cc in
     let by : offset ≡ words.offset = cc in
     ap (λ (r : ℕ). jump_target (value_of regs r) offset) base
@@ -147,7 +154,8 @@ follows_here program decoded context device memory memory' before after faultles
     let reach = reaches (service_at program.code before.place) node turn i step.effect.next clear.direct goes_on back in
     let among : RegistersFit step.insn = decoded.fits before.place step.insn step.fetched in
     let after_fits : StandingFits after = step_keeps program.code device memory memory' before after decoded fits.registers_fit bytes step in
-    let onward = onward_known program.code before.place step.insn before.registers memory device step.effect fits.place_fits step.fetched step.does fits.registers_fit among known in
+    let onward = onward_known program.code before.place step.insn before.registers memory device step.effect fits.place_fits step.fetched step.does
+    fits.registers_fit among known in
     let there : PlaceFacts program.code step.effect.next step.effect.registers =
     known_after program node turn i step.effect.next _ step.effect.registers clear.middle goes_on reach onward in
     record {
@@ -168,7 +176,11 @@ follows_here program decoded context device memory memory' before after faultles
 pub steps_follow_edges : (program : Program) → CodeFits program.code → StepsFollowEdges program
 unfolding StepsFollowEdges
 steps_follow_edges program decoded node device memory memory' before after faultless stands bytes step paired =
-    let sites : record { context = node.context; sites = before.calls; address = before.place } ≡ record { context = node.context; sites = node.sites; address = before.place } =
+    let sites : record { context = node.context; sites = before.calls; address = before.place } ≡ record {
+      context = node.context;
+      sites = node.sites;
+      address = before.place;
+    } =
     ap (λ (calls : List ℕ). record { context = node.context; sites = calls; address = before.place }) stands.calls_are in
     let same : record { context = node.context; sites = before.calls; address = before.place } ≡ node =
     sites ∙ ap (λ (a : ℕ). record { context = node.context; sites = node.sites; address = a }) stands.place_is in

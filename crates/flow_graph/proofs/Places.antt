@@ -63,7 +63,8 @@ pub record ServiceWords (code : ℕ → Option Insn) (address : ℕ) (s : Servic
 
 pub service_words : (code : ℕ → Option Insn) (address : ℕ) (s : ServiceAt) → service_at code address ≡ Some s → ServiceWords code address s
 service_words code address s e =
-    let parts = service_inv (option_and_then (constant_in 10) (code (preceding (preceding address)))) (option_and_then (constant_in 17) (code (preceding address))) (code address) s e in
+    let parts = service_inv (option_and_then (constant_in 10) (code (preceding (preceding address))))
+    (option_and_then (constant_in 17) (code (preceding address))) (code address) s e in
     record { first = loads 10 _ s.argument parts.0; second = loads 17 _ s.number parts.1; third = parts.2 }
 
 -- ---- Pairs
@@ -112,5 +113,6 @@ pair_both address (Some (Auipc register imm)) None p e = absurd (none-some p e)
 pair_both address (Some (Auipc register imm)) (Some insn) p e = pair_second address register imm insn p e
 pair_both address (Some first) second p e = absurd (none-some p e)
 
-pub pair_words : (code : ℕ → Option Insn) (address : ℕ) (p : Pair) → pair_at code address ≡ Some p → PairWords (preceding address) (code (preceding address)) (code address) p
+pub pair_words : (code : ℕ → Option Insn) (address : ℕ) (p : Pair) → pair_at code address ≡ Some p
+    → PairWords (preceding address) (code (preceding address)) (code address) p
 pair_words code address p e = pair_both (preceding address) (code (preceding address)) (code address) p e

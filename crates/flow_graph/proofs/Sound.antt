@@ -37,7 +37,8 @@ pub record IsSound (program : Program) (node : Node) (turn : Turn) : Type 0 wher
   pub covered : goes_back_uncovered program node turn ≡ false
   pub shallow : calls_too_deep node turn ≡ false
 
-pub sound : (program : Program) (node : Node) (turn : Turn) → turn_at program.code node.address ≡ Some turn → fault_of program node ≡ None → IsSound program node turn
+pub sound : (program : Program) (node : Node) (turn : Turn) → turn_at program.code node.address ≡ Some turn → fault_of program node ≡ None
+    → IsSound program node turn
 sound program node turn at none =
     let word = else_none (program.has_word node.address) _ _ none in
     let some : turn_fault program node (Some turn) ≡ None = subst (λ (t : Option Turn). turn_fault program node t ≡ None) at word.1 in

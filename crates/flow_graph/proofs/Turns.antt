@@ -38,7 +38,8 @@ next_of line effect e = ap (λ (one : Effect). one.next) (sym (same_Some line ef
 onward_goes : (place : ℕ) (line effect : Effect) → line.next ≡ following place → Some line ≡ Some effect → (effect.next ≡ following place) × (◌≡◌ {A = ℕ} 0 0)
 onward_goes place line effect same e = (next_of line effect e ∙ same, refl)
 
-either_linked : (zero_rd one_rd : Bool) (target place next : ℕ) → next ≡ target → GoesBy (cond zero_rd (Jumping target) (cond one_rd (Calling target) Indirect)) place next 0
+either_linked : (zero_rd one_rd : Bool) (target place next : ℕ) → next ≡ target
+    → GoesBy (cond zero_rd (Jumping target) (cond one_rd (Calling target) Indirect)) place next 0
 either_linked true one_rd target place next h = (h, refl)
 either_linked false true target place next h = (h, refl)
 either_linked false false target place next h = refl
@@ -100,7 +101,8 @@ back_reaches : (node : Node) (found : Option ℕ) (i address : ℕ) → i ≡ 0 
     → Reaches (edges_for (λ site. edge_to kinds.Return (returned_node node site)) found) node.context i address (take (length node.sites - 1) node.sites)
 back_reaches node None i address first h = absurd (none-some address h)
 back_reaches node (Some site) i address first h =
-    first_reaches [] (edge_to kinds.Return (returned_node node site)) (returned_node node site) i address refl (sym (same_Some (following site) address h)) first
+    first_reaches [] (edge_to kinds.Return (returned_node node site)) (returned_node node site) i address refl (sym (same_Some (following site) address h))
+    first
 
 pub reaches : (service : Option ServiceAt) (node : Node) (turn : Turn) (i address : ℕ) → is_indirect turn ≡ false → GoesBy turn node.address address i
     → IsPaired turn node.sites address → Reaches (edges_by service node turn) node.context i address (calls_after turn node.address node.sites)

@@ -30,7 +30,8 @@ use Rattle.flow_graph.proofs.Law.{nothing_known, steps_follow_edges}
 -- ---- At an ECALL
 
 -- the turn at an address by the instruction there
-turn_there : (code : ℕ → Option Insn) (address : ℕ) (insn : Insn) → code address ≡ Some insn → turn_at code address ≡ Some (turn_of (pair_at code address) address insn)
+turn_there : (code : ℕ → Option Insn) (address : ℕ) (insn : Insn) → code address ≡ Some insn
+    → turn_at code address ≡ Some (turn_of (pair_at code address) address insn)
 turn_there code address insn at = ap (option_map (turn_of (pair_at code address) address)) at
 
 some_service : (program : Program) (place : ℕ) (regs : List ℕ) (found : Option ServiceAt) → service_at program.code place ≡ found
@@ -55,13 +56,15 @@ pub ecalls_serve : (program : Program) → EcallsServe program
 unfolding EcallsServe
 ecalls_serve program node standing none stands at =
     let here : program.code node.address ≡ Some Ecall = subst (λ (a : ℕ). program.code a ≡ Some Ecall) stands.place_is at in
-    let known : PlaceFacts program.code node.address standing.registers = subst (λ (a : ℕ). PlaceFacts program.code a standing.registers) stands.place_is stands.facts in
+    let known : PlaceFacts program.code node.address standing.registers =
+    subst (λ (a : ℕ). PlaceFacts program.code a standing.registers) stands.place_is stands.facts in
     subst (λ (a : ℕ). Serves program a standing.registers) (sym stands.place_is) (ecall_serves program node standing.registers none here known)
 
 -- ---- No node is stuck
 
 executes : (program : Program) (node : Node) (insn : Insn) → program.code node.address ≡ Some insn
-    → is_breaking (turn_of (pair_at program.code node.address) node.address insn) ≡ false → (program.code node.address ≡ Some Ecall) ⊎ Executes program node.address
+    → is_breaking (turn_of (pair_at program.code node.address) node.address insn) ≡ false → (program.code node.address ≡ Some Ecall)
+    ⊎ Executes program node.address
 executes program node Ecall at h = inl at
 executes program node Ebreak at h = absurd cc
 executes program node (Lui rd imm) at h = inr (record { insn = Lui rd imm; fetched = at; executable = tt })
@@ -81,7 +84,8 @@ executes_any : (program : Program) (node : Node) (found : Option Insn) → progr
     → (program.code node.address ≡ Some Ecall) ⊎ Executes program node.address
 executes_any program node None at none turn h = absurd (none-some turn h)
 executes_any program node (Some insn) at none turn h =
-    executes program node insn at (sound program node (turn_of (pair_at program.code node.address) node.address insn) (turn_there program.code node.address insn at) none).no_break
+    executes program node insn at (sound program node (turn_of (pair_at program.code node.address) node.address insn)
+    (turn_there program.code node.address insn at) none).no_break
 
 pub none_is_stuck : (program : Program) → NoneIsStuck program
 unfolding NoneIsStuck
@@ -93,12 +97,14 @@ none_is_stuck program node none =
 
 pub steps_keep_bytes : (code : ℕ → Option Insn) → CodeFits code → StepsKeepBytes code
 unfolding StepsKeepBytes
-steps_keep_bytes code decoded device memory memory' before after fits bytes step = step_keeps_bytes code device memory memory' before after decoded fits bytes step
+steps_keep_bytes code decoded device memory memory' before after fits bytes step =
+    step_keeps_bytes code device memory memory' before after decoded fits bytes step
 
 -- ---- Entries
 
 -- an entry that is no middle word
-entry_known : (program : Program) (node : Node) (regs : List ℕ) → is_entry program node ≡ true → (is_entry program node && is_middle program.code node.address) ≡ false
+entry_known : (program : Program) (node : Node) (regs : List ℕ) → is_entry program node ≡ true
+    → (is_entry program node && is_middle program.code node.address) ≡ false
     → PlaceFacts program.code node.address regs
 entry_known program node regs is h = nothing_known program.code node.address regs (second (is_entry program node) (is_middle program.code node.address) is h)
   where
@@ -131,7 +137,8 @@ entries_stand program node regs is none are fits =
 service_edges : (program : Program) (node : Node) (service : ServiceAt) → service_at program.code node.address ≡ Some service
     → program.code node.address ≡ Some Ecall → edges_of program.code node ≡ service_edge node service ∷ []
 service_edges program node service at ecall =
-    ap (λ (found : Option Turn). option_map_or (edges_by (service_at program.code node.address) node) found []) (turn_there program.code node.address Ecall ecall)
+    ap (λ (found : Option Turn). option_map_or (edges_by (service_at program.code node.address) node) found [])
+    (turn_there program.code node.address Ecall ecall)
     ∙ ap (λ (found : Option ServiceAt). edges_by found node Serving) at
 
 returned_edge : (node : Node) (service : ServiceAt) → ends_by service.number ≡ false → (service_edge node service).to ≡ Some (next_node node)
@@ -142,7 +149,8 @@ unfolding ServicesGoOn
 services_go_on program node service regs none ecall at h are =
     let clear : IsSound program node Serving = sound program node Serving (turn_there program.code node.address Ecall ecall) none in
     let edges : edges_of program.code node ≡ service_edge node service ∷ [] = service_edges program node service at ecall in
-    let own : edges_by (service_at program.code node.address) node Serving ≡ service_edge node service ∷ [] = ap (λ (found : Option ServiceAt). edges_by found node Serving) at in
+    let own : edges_by (service_at program.code node.address) node Serving ≡ service_edge node service ∷ [] =
+    ap (λ (found : Option ServiceAt). edges_by found node Serving) at in
     let middle : is_middle program.code (following node.address) ≡ false =
     not_middle program (edges_by (service_at program.code node.address) node Serving) 0 (service_edge node service) (next_node node) clear.middle
     (ap (λ (edges : List (Edge Node)). slice_get edges 0) own) (returned_edge node service h) in
@@ -173,18 +181,26 @@ moves_on program faultless decoded context before after (steps device memory mem
     let follows = steps_follow_edges program decoded on.node device memory memory' before after none on.stands bytes step paired in
     record {
       node = follows.next;
-      reached = along on.node follows.next on.reached (record { faultless = none; number = _; edge = follows.edge; leaves = follows.leaves; arrives = follows.arrives });
+      reached = along on.node follows.next on.reached (record {
+        faultless = none;
+        number = _;
+        edge = follows.edge;
+        leaves = follows.leaves;
+        arrives = follows.arrives;
+      });
       context_is = follows.context_is ∙ on.context_is;
       stands = follows.stands;
     }
 moves_on program faultless decoded context before after (served _ regs ecall h are) on =
     let none : fault_of program on.node ≡ None = faultless.none on.node on.reached in
     let here : program.code on.node.address ≡ Some Ecall = subst (λ (a : ℕ). program.code a ≡ Some Ecall) on.stands.place_is ecall in
-    let known : PlaceFacts program.code on.node.address before.registers = subst (λ (a : ℕ). PlaceFacts program.code a before.registers) on.stands.place_is on.stands.facts in
+    let known : PlaceFacts program.code on.node.address before.registers =
+    subst (λ (a : ℕ). PlaceFacts program.code a before.registers) on.stands.place_is on.stands.facts in
     let serves = ecall_serves program on.node before.registers none here known in
     let next = services_go_on program on.node serves.service regs none here serves.stands (ap ends_by (sym serves.number_is) ∙ h) are in
     let same : standing_at regs (following on.node.address) on.node.sites ≡ standing_at regs (following before.place) before.calls =
-    ap (λ (a : ℕ). standing_at regs (following a) on.node.sites) (sym on.stands.place_is) ∙ ap (standing_at regs (following before.place)) (sym on.stands.calls_are) in
+    ap (λ (a : ℕ). standing_at regs (following a) on.node.sites) (sym on.stands.place_is)
+    ∙ ap (standing_at regs (following before.place)) (sym on.stands.calls_are) in
     record {
       node = next_node on.node;
       reached = along on.node (next_node on.node) on.reached next.leads;
@@ -193,13 +209,15 @@ moves_on program faultless decoded context before after (served _ regs ecall h a
     }
 
 -- the entry's node is one
-entry_is : (program : Program) (context place : ℕ) → entry_at program context ≡ Some place → is_entry program (record { context = context; sites = []; address = place }) ≡ true
+entry_is : (program : Program) (context place : ℕ) → entry_at program context ≡ Some place
+    → is_entry program (record { context = context; sites = []; address = place }) ≡ true
 entry_is program context place at = ap (λ (found : Option ℕ). option_map_or (nat_eq place) found false) at ∙ same place
   where
     same : (n : ℕ) → nat_eq n n ≡ true
     same n = grind (arith, nat_tests)
 
-on_graph : (program : Program) → IsFaultless program → CodeFits program.code → (context : ℕ) (standing : Standing) → Walk program context standing → IsOnGraph program context standing
+on_graph : (program : Program) → IsFaultless program → CodeFits program.code → (context : ℕ) (standing : Standing) → Walk program context standing
+    → IsOnGraph program context standing
 unfolding EntriesStand
 on_graph program faultless decoded context standing (begins regs place are fits at) =
     let node : Node = record { context = context; sites = []; address = place } in

@@ -24,10 +24,11 @@ use osek_kernel::Context;
 use std::alloc::Global;
 use timing_file::Timing;
 
-type Entries = ListedNumbers<Option<u32>>;
+/// The addresses at which the contexts begin, in their order.
+pub type Entries = ListedNumbers<Option<u32>>;
 
-/// The address at which each context begins.
-fn entries_of(alloc: Global, image: &Image, system: &System) -> Result<Entries, Memory>
+/// The address at which each context begins, by its place; none where it has no symbol.
+pub fn entries_of(alloc: Global, image: &Image, system: &System) -> Result<Entries, Memory>
     ensures { IfOk result (λ entries. entries ≡ graphs.entries_of image.now system.now) }
 {
     match system.tasks.len().checked_add(system.isrs.len()) {
@@ -60,6 +61,7 @@ fn entry_at(image: &Image, system: &System, place: usize) -> Option<u32>
 }
 
 /// The fault of the first of the nodes that has one.
+#[tactic(auto, using(crate::proofs::Graphs::first_faults))]
 fn first_fault(
     alloc: Global,
     program: &Judged<'_>,

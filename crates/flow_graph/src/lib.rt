@@ -29,7 +29,7 @@ mod reach;
 #[cfg(test)]
 mod tests;
 
-pub use building::build;
+pub use building::{Entries, build, entries_of};
 pub use edge::{Edge, EdgeKind, Edges};
 pub use fault::{CodeFault, CodeKind};
 pub use flow::{Flow, Leaving};

@@ -2,7 +2,7 @@
 ghost use Rattle.std.specs.Prelude.{◌≡◌, IfOk, Some, option_map};
 ghost use Rattle.oil_model.specs.System.{IsLawful as IsLawfulSystem};
 ghost use Rattle.timing_file.specs.Lawful.{IsLawful as IsLawfulTiming};
-ghost use Rattle.wcet_atomic_blocks.specs.Plants.{HaveGraph};
+ghost use Rattle.wcet_atomic_blocks.specs.Plants.{IsGraphOf};
 ghost use Rattle.command_steps.specs.Steps.{IsCall, Says};
 ghost use Rattle.syswcet.specs.Plants as words;
 
@@ -150,7 +150,7 @@ fn plant_on(
 ) -> Result<Plant, Halt>
     requires system { IsLawfulSystem system }
     requires timing { IsLawfulTiming timing }
-    requires graph { HaveGraph image system timing flow }
+    requires graph { IsGraphOf image system timing flow }
     ensures { Says (words.HasPlant image system timing) result }
 {
     match planted(alloc, image, system, timing, flow) {

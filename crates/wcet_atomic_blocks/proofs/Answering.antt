@@ -7,10 +7,11 @@ use Rattle.flow_graph.specs.declared.flow.Flow.{Flow}
 use Rattle.wcet_atomic_blocks.specs.declared.fault.BlockFault.TheVariants as blocks
 use Rattle.wcet_atomic_blocks.specs.declared.fault.PlantFault.{PlantFault}
 use Rattle.wcet_atomic_blocks.specs.declared.fault.PlantFault.TheVariants.{Code, Block, Memory}
-use Rattle.wcet_atomic_blocks.specs.Plants.{PlantData, HaveGraph}
+use Rattle.wcet_atomic_blocks.specs.Plants.{PlantData, IsGraphOf}
 use Rattle.wcet_atomic_blocks.specs.Planting.{AnswersFlow, IsAnswer}
 
-pub answers_with : (image : ImageData) (system : System) (timing : Timing) (flow : Flow) (answer : Result PlantData PlantFault) → HaveGraph image system timing flow
+pub answers_with : (image : ImageData) (system : System) (timing : Timing) (flow : Flow) (answer : Result PlantData PlantFault)
+    → IsGraphOf image system timing flow
     → AnswersFlow image system timing flow answer → IsAnswer image system timing answer
 answers_with image system timing flow (Ok plant) graph is = is.of
 answers_with image system timing flow (Err Memory) graph is = tt

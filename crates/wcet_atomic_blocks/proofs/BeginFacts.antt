@@ -75,7 +75,8 @@ pub services_below : (flow : Flow) (services : List ℕ) → services ≡ servic
 services_below flow services is =
     subst (λ (xs : List ℕ). All (λ s. s < length flow.nodes) xs) (sym is)
     (All-filter (is_service flow) (λ s. s < length flow.nodes) (range_with_len 0 (length flow.nodes))
-    (λ k d inside. let b = range_below 0 (length flow.nodes) (get_or (range_with_len 0 (length flow.nodes)) k d) (Contains-get_or (range_with_len 0 (length flow.nodes)) k d inside) in omega (arith, b)))
+    (λ k d inside. let b = range_below 0 (length flow.nodes) (get_or (range_with_len 0 (length flow.nodes)) k d)
+    (Contains-get_or (range_with_len 0 (length flow.nodes)) k d inside) in omega (arith, b)))
 
 some_if : {X : Type 0} (b : Bool) (o : Option X) (x : X) → cond b o None ≡ Some x → (b ≡ true) × (o ≡ Some x)
 some_if true o x e = (refl, e)
@@ -93,7 +94,8 @@ successor_edge flow node next to =
 
 -- ---- Each beginning
 
-shifts : (flow : Flow) (context entry_node : ℕ) (entries : List ℕ) (b : Beginning) → IsBeginning flow (suc context) entries b → IsBeginning flow context (entry_node ∷ entries) b
+shifts : (flow : Flow) (context entry_node : ℕ) (entries : List ℕ) (b : Beginning) → IsBeginning flow (suc context) entries b
+    → IsBeginning flow context (entry_node ∷ entries) b
 shifts flow context entry_node entries b (entry place e at is) =
     entry (suc place) e at (is ∙ ap (λ c. at_entry c e) (omega arith))
 shifts flow context entry_node entries b (service place node next inside exists of goes is) =
@@ -107,14 +109,16 @@ given flow context node b true (Some next) gives = (next, refl, refl, cc)
 given flow context node b true None gives = absurd cc
 given flow context node b false o gives = absurd cc
 
-pub each_beginning : (flow : Flow) (context : ℕ) (entries : List ℕ) (b : Beginning) → Contains (beginnings_from flow context entries) b → IsBeginning flow context entries b
+pub each_beginning : (flow : Flow) (context : ℕ) (entries : List ℕ) (b : Beginning) → Contains (beginnings_from flow context entries) b
+    → IsBeginning flow context entries b
 each_beginning flow context [] b is = absurd (let below = is.1 in omega (arith, below))
 each_beginning flow context (e ∷ entries) b is =
     elim (Contains-append_cases (beginnings_of flow context e) (beginnings_from flow (suc context) entries) b is) [
-      | inl mine ↦ elim (Contains-append_cases (at_entry context e ∷ []) (filter_map (beginning_behind flow context) (range_with_len 0 (length flow.nodes))) b mine) [
-        | inl one ↦ entry 0 e refl (sym (contains_one (at_entry context e) b one) ∙ ap (λ c. at_entry c e) (omega arith))
-        | inr more ↦ from_node (filter_map_of (beginning_behind flow context) (range_with_len 0 (length flow.nodes)) b more)
-      ]
+      | inl mine ↦ elim (Contains-append_cases (at_entry context e ∷ []) (filter_map (beginning_behind flow context) (range_with_len 0 (length flow.nodes))) b
+          mine) [
+            | inl one ↦ entry 0 e refl (sym (contains_one (at_entry context e) b one) ∙ ap (λ c. at_entry c e) (omega arith))
+            | inr more ↦ from_node (filter_map_of (beginning_behind flow context) (range_with_len 0 (length flow.nodes)) b more)
+          ]
       | inr later ↦ shifts flow context e entries b (each_beginning flow (suc context) entries b later)
     ]
   where
@@ -133,7 +137,8 @@ entry_stands flow context place [] e at = absurd cc
 entry_stands flow context zero (first ∷ entries) e at =
     let same : first ≡ e = cc in
     Contains-append_left (beginnings_of flow context first) (beginnings_from flow (suc context) entries) (at_entry (context + 0) e)
-    (subst (λ (b : Beginning). Contains (beginnings_of flow context first) b) (ap (at_entry context) same ∙ ap (λ c. at_entry c e) (omega arith)) (contains_head (at_entry context first) _))
+    (subst (λ (b : Beginning). Contains (beginnings_of flow context first) b) (ap (at_entry context) same ∙ ap (λ c. at_entry c e) (omega arith))
+    (contains_head (at_entry context first) _))
 entry_stands flow context (suc place) (first ∷ entries) e at =
     Contains-append_right (beginnings_of flow context first) (beginnings_from flow (suc context) entries) (at_entry (context + suc place) e)
     (subst (λ (c : ℕ). Contains (beginnings_from flow (suc context) entries) (at_entry c e)) (omega arith) (entry_stands flow (suc context) place entries e at))
@@ -149,7 +154,8 @@ service_stands flow context zero (first ∷ entries) node next inside exists of 
     Contains-append_left (beginnings_of flow context first) (beginnings_from flow (suc context) entries) (behind (context + 0) node next)
     (contains_tail (at_entry context first) _ (behind (context + 0) node next)
     (subst (λ (c : ℕ). Contains (filter_map (beginning_behind flow context) (range_with_len 0 (length flow.nodes))) (behind c node next)) (omega arith)
-    (filter_map_has (beginning_behind flow context) (range_with_len 0 (length flow.nodes)) node (behind context node next) (range_has (length flow.nodes) node exists) gives)))
+    (filter_map_has (beginning_behind flow context) (range_with_len 0 (length flow.nodes)) node (behind context node next)
+    (range_has (length flow.nodes) node exists) gives)))
 service_stands flow context (suc place) (first ∷ entries) node next inside exists of goes =
     Contains-append_right (beginnings_of flow context first) (beginnings_from flow (suc context) entries) (behind (context + suc place) node next)
     (subst (λ (c : ℕ). Contains (beginnings_from flow (suc context) entries) (behind c node next)) (omega arith)
@@ -164,7 +170,8 @@ entry_below entries place node count at each =
 -- a fact of each beginning is one of all in the list
 each_of : (flow : Flow) (entries : List ℕ) (P : Beginning → Type 0) → ((b : Beginning) → IsBeginning flow 0 entries b → P b) → All P (beginnings flow entries)
 each_of flow entries P each k d inside =
-    each (get_or (beginnings flow entries) k d) (each_beginning flow 0 entries (get_or (beginnings flow entries) k d) (Contains-get_or (beginnings flow entries) k d inside))
+    each (get_or (beginnings flow entries) k d) (each_beginning flow 0 entries (get_or (beginnings flow entries) k d)
+    (Contains-get_or (beginnings flow entries) k d inside))
 
 pub firsts_exist : (flow : Flow) (entries : List ℕ) → IsWhole flow entries → All (λ b. b.first < length flow.nodes) (beginnings flow entries)
 firsts_exist flow entries whole = each_of flow entries (λ b. b.first < length flow.nodes) go
@@ -208,7 +215,8 @@ some_and : {X : Type 0} (o : Option X) {P Q : X → Type 0} → ((x : X) → P x
 some_and (Some x) each p = each x p
 some_and None each p = p
 
-pub entries_named : (flow : Flow) (entries : List ℕ) (blocks : List Block) (begins : List Beginning) (table : List ℕ) → map (λ block. block.begin) blocks ≡ begins
+pub entries_named : (flow : Flow) (entries : List ℕ) (blocks : List Block) (begins : List Beginning) (table : List ℕ)
+    → map (λ block. block.begin) blocks ≡ begins
     → begins ≡ beginnings flow entries → AreEntriesBelow begins (length begins) (length entries) table → (context : ℕ) → context < length entries
     → IsSomeAnd (slice_get table context) (λ number. IsSomeAnd (slice_get blocks number) (IsEntryBlock context))
 entries_named flow entries blocks begins table are is named context inside =
@@ -217,7 +225,8 @@ entries_named flow entries blocks begins table are is named context inside =
     let stands : Contains begins (at_entry context node) =
     subst (λ (bs : List Beginning). Contains bs (at_entry context node)) (sym is)
     (subst (λ (c : ℕ). Contains (beginnings flow entries) (at_entry c node)) (omega arith) (entry_stands flow 0 context entries node at)) in
-    let there : slice_get begins stands.0 ≡ Some (at_entry context node) = slice_get-get_or begins stands.0 (at_entry context node) stands.1 ∙ ap Some stands.2 in
+    let there : slice_get begins stands.0 ≡ Some (at_entry context node) = slice_get-get_or begins stands.0 (at_entry context node) stands.1
+    ∙ ap Some stands.2 in
     some_and (slice_get table context)
     (λ number entry_at. block_there blocks begins number entry_at.begin (IsEntryBlock context) are entry_at.stands
     (λ block same. record { owner = ap (λ (b : Beginning). b.owner) same ∙ entry_at.owner; after = ap (λ (b : Beginning). b.after) same ∙ entry_at.after }))
@@ -240,7 +249,12 @@ afters_named flow entries blocks begins table whole are is named node inside = s
         subst (λ (bs : List Beginning). Contains bs (behind n.context node next)) (sym is)
         (subst (λ (c : ℕ). Contains (beginnings flow entries) (behind c node next)) (omega arith)
         (service_stands flow 0 n.context entries node next context inside (subst (λ (c : ℕ). is_of flow c node ≡ true) (omega arith) of) e)) in
-        found stands.0 stands.1 (record { begin = behind n.context node next; stands = slice_get-get_or begins stands.0 (behind n.context node next) stands.1 ∙ ap Some stands.2; after = refl }))
+        found stands.0 stands.1 (record {
+          begin = behind n.context node next;
+          stands = slice_get-get_or begins stands.0 (behind n.context node next) stands.1
+              ∙ ap Some stands.2;
+          after = refl;
+        }))
 
     each : (o : Option ℕ) → IsFound begins (length begins) node o → IsAfter flow blocks node o
     each None found = none found (successor flow node) refl

@@ -24,7 +24,8 @@ filter_map_one f n (Some y) e = rw e
 pub filter_map_counts : {Y : Type 0} (f : ℕ → Option Y) (n : ℕ)
     → filter_map f (range_with_len 0 (n + 1)) ≡ filter_map f (range_with_len 0 n) ++ option_to_list (f n)
 filter_map_counts f n =
-    ap (filter_map f) (counting_more n) ∙ filter_map-append f (range_with_len 0 n) (n ∷ []) ∙ ap (λ ys. filter_map f (range_with_len 0 n) ++ ys) (filter_map_one f n (f n) refl)
+    ap (filter_map f) (counting_more n) ∙ filter_map-append f (range_with_len 0 n) (n ∷ [])
+    ∙ ap (λ ys. filter_map f (range_with_len 0 n) ++ ys) (filter_map_one f n (f n) refl)
 
 pub filter_counts : (p : ℕ → Bool) (n : ℕ) → filter p (range_with_len 0 (n + 1)) ≡ filter p (range_with_len 0 n) ++ cond (p n) (n ∷ []) []
 filter_counts p n = ap (filter p) (counting_more n) ∙ filter-append p (range_with_len 0 n) (n ∷ [])

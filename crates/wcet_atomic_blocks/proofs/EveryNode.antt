@@ -34,15 +34,19 @@ program_in plant = program_of plant.image plant.system plant.timing
 
 -- ---- A node has one number
 
-not_before : (nodes : List Node) (i j : ℕ) (node : Node) → IsStrictlySortedBy node_cmp nodes → slice_get nodes i ≡ Some node → slice_get nodes j ≡ Some node → i < j → ⊥
+not_before : (nodes : List Node) (i j : ℕ) (node : Node) → IsStrictlySortedBy node_cmp nodes → slice_get nodes i ≡ Some node → slice_get nodes j ≡ Some node
+    → i < j → ⊥
 not_before nodes i j node order at at' before =
-    let less : node_cmp (get_or nodes i node) (get_or nodes j node) ≡ Less = Less-from_sorted node_cmp nodes i j node order before (slice_get_within nodes j node at') in
+    let less : node_cmp (get_or nodes i node) (get_or nodes j node) ≡ Less =
+    Less-from_sorted node_cmp nodes i j node order before (slice_get_within nodes j node at') in
     let same : node_cmp node node ≡ Less =
-    ap (λ n. node_cmp n node) (sym (get_or_from_slice_get nodes i node node at)) ∙ ap (λ n. node_cmp (get_or nodes i node) n) (sym (get_or_from_slice_get nodes j node node at')) ∙ less in
+    ap (λ n. node_cmp n node) (sym (get_or_from_slice_get nodes i node node at))
+    ∙ ap (λ n. node_cmp (get_or nodes i node) n) (sym (get_or_from_slice_get nodes j node node at')) ∙ less in
     let tied : node_cmp node node ≡ Equal = tied_itself node_total node in
     let both : Less ≡ Equal = sym same ∙ tied in cc
 
-one_number : (nodes : List Node) (i j : ℕ) (node : Node) → IsStrictlySortedBy node_cmp nodes → slice_get nodes i ≡ Some node → slice_get nodes j ≡ Some node → i ≡ j
+one_number : (nodes : List Node) (i j : ℕ) (node : Node) → IsStrictlySortedBy node_cmp nodes → slice_get nodes i ≡ Some node → slice_get nodes j ≡ Some node
+    → i ≡ j
 one_number nodes i j node order at at' =
     elim (cases_lt i j) [
       | inl before ↦ absurd (not_before nodes i j node order at at' before)
@@ -58,7 +62,8 @@ both_true : (a b : Bool) → a && b ≡ true → (a ≡ true) × (b ≡ true)
 both_true true b h = (refl, h)
 both_true false b h = absurd cc
 
-entry_parts : (entries : List (Option ℕ)) (node : Node) → is_entry_of entries node ≡ true → (node.sites ≡ []) × (entry_in entries node.context ≡ Some node.address)
+entry_parts : (entries : List (Option ℕ)) (node : Node) → is_entry_of entries node ≡ true → (node.sites ≡ [])
+    × (entry_in entries node.context ≡ Some node.address)
 entry_parts entries node is =
     let parts = both_true (length node.sites == 0) (option_map_or (nat_eq node.address) (entry_in entries node.context) false) is in
     (nil_from_length node.sites (eqb-true (length node.sites) 0 parts.0), there (entry_in entries node.context) parts.1)
@@ -105,7 +110,8 @@ found : {X : Type 0} (o : Option X) (P : X → Type 0) → IsSomeAnd o P → (x 
 found (Some x) P p = (x, refl, p)
 found None P p = absurd p
 
-some_block : (plant : PlantData) (number : ℕ) (block : Block) (node : ℕ) → slice_get plant.blocks.blocks number ≡ Some block → holds block.nodes node ≡ true → HasNode plant node number
+some_block : (plant : PlantData) (number : ℕ) (block : Block) (node : ℕ) → slice_get plant.blocks.blocks number ≡ Some block → holds block.nodes node ≡ true
+    → HasNode plant node number
 some_block plant number block node at held = subst (λ o. IsSomeAnd o (λ (b : Block). holds b.nodes node ≡ true)) (sym at) held
 
 lies : (plant : PlantData) → IsPlant plant → (node : Node) → IsNode (program_in plant) node → (number : ℕ) → slice_get plant.flow.nodes number ≡ Some node
@@ -113,18 +119,23 @@ lies : (plant : PlantData) → IsPlant plant → (node : Node) → IsNode (progr
 unfolding EntriesBegin AftersBegin ServicesHaveBlocks FirstIsInside BlocksAreClosed
 lies plant is node (entry _ is_entry) number at =
     let inside = context_exists (program_in plant) node (entry node is_entry) in
-    let named = found (slice_get plant.blocks.entries node.context) (λ n. IsSomeAnd (slice_get plant.blocks.blocks n) (BeginsAtEntry plant node.context)) (entries_begin plant is node.context inside) in
+    let named = found (slice_get plant.blocks.entries node.context) (λ n. IsSomeAnd (slice_get plant.blocks.blocks n) (BeginsAtEntry plant node.context))
+    (entries_begin plant is node.context inside) in
     let there = found (slice_get plant.blocks.blocks named.0) (BeginsAtEntry plant node.context) named.2 in
     let first = there.2.first in
     let same : first.node ≡ node = entry_same (entries_of plant.image plant.system) first.node node first.context_is first.is_entry is_entry in
     let number_is : there.0.begin.first ≡ number =
-    one_number plant.flow.nodes there.0.begin.first number node is.graph.graph.nodes.are.order (first.stands ∙ ap Some same) at in
-    (named.0, some_block plant named.0 there.0 number there.1 (subst (λ (n : ℕ). holds there.0.nodes n ≡ true) number_is (first_is_inside plant is named.0 there.0 there.1)))
+    one_number plant.flow.nodes there.0.begin.first number node is.graph.graph.nodes.are.order (first.stands ∙ ap Some same) at in (
+      named.0,
+      some_block plant named.0 there.0 number there.1
+          (subst (λ (n : ℕ). holds there.0.nodes n ≡ true) number_is (first_is_inside plant is named.0 there.0 there.1)),
+    )
 lies plant is next (along node _ reached leads) number at =
     let stands = is.graph.graph.nodes.all node reached in
     let here : slice_get plant.flow.nodes stands.0 ≡ Some node = slice_get-get_or plant.flow.nodes stands.0 node stands.1 ∙ ap Some stands.2 in
     let left = beside_first (IsLeaving (program_in plant) plant.flow.nodes) plant.flow.nodes plant.flow.leaving stands.0 node is.graph.graph.leaving here in
-    let numbered = beside_first (IsEdge plant.flow.nodes) (edges_of (program_in plant).code node) left.0.edges leads.number leads.edge left.2.edges_are leads.leaves in
+    let numbered = beside_first (IsEdge plant.flow.nodes) (edges_of (program_in plant).code node) left.0.edges leads.number leads.edge left.2.edges_are
+    leads.leaves in
     let to = target_number leads.edge.to numbered.0.to leads.arrives numbered.2.to_is in
     let to_is : numbered.0.to ≡ Some number = to.1 ∙ ap Some (one_number plant.flow.nodes to.0 number next is.graph.graph.nodes.are.order to.2 at) in
     go stands.0 left.0 left.1 numbered.0 numbered.1 to_is (lies plant is node reached stands.0 here) (is_some left.0.service) refl
@@ -142,14 +153,21 @@ lies plant is next (along node _ reached leads) number at =
         start : (o : Option ServiceAt) → service_at (program_in plant).code node.address ≡ o → is_some o ≡ true → leads.number ≡ 0
         start None e h = absurd cc
         start (Some service) e h =
-            at_zero (service_edge node service) leads.edge leads.number (ap (λ es. slice_get es leads.number) (sym (one_edge (program_in plant) node service e)) ∙ leads.leaves)
+            at_zero (service_edge node service) leads.edge leads.number
+            (ap (λ es. slice_get es leads.number) (sym (one_edge (program_in plant) node service e)) ∙ leads.leaves)
 
-    go : (i : ℕ) (leaving : Leaving) → slice_get plant.flow.leaving i ≡ Some leaving → (edge : Edge ℕ) → slice_get leaving.edges leads.number ≡ Some edge → edge.to ≡ Some number
+    go : (i : ℕ) (leaving : Leaving) → slice_get plant.flow.leaving i ≡ Some leaving → (edge : Edge ℕ) → slice_get leaving.edges leads.number ≡ Some edge
+        → edge.to ≡ Some number
         → (block : ℕ) × HasNode plant i block → (serves : Bool) → is_some leaving.service ≡ serves → (is_some leaving.service ≡ true → leads.number ≡ 0)
         → (block : ℕ) × HasNode plant number block
     go i leaving left edge there to block false plain zero_if =
         let held = found (slice_get plant.blocks.blocks block.0) (λ (b : Block). holds b.nodes i ≡ true) block.1 in
-        let has : HasEdge plant.flow i number = record { number = leads.number; edge = edge; leaves = ap (λ o. slice_get (option_map_or (λ (l : Leaving). l.edges) o []) leads.number) left ∙ there; arrives = to } in
+        let has : HasEdge plant.flow i number = record {
+          number = leads.number;
+          edge = edge;
+          leaves = ap (λ o. slice_get (option_map_or (λ (l : Leaving). l.edges) o []) leads.number) left ∙ there;
+          arrives = to;
+        } in
         let no : is_service plant.flow i ≡ false = ap (λ o. option_map_or (λ (l : Leaving). is_some l.service) o false) left ∙ plain in
         (block.0, some_block plant block.0 held.0 number held.1 (blocks_are_closed plant is block.0 held.0 i number held.1 held.2 no has))
     go i leaving left edge there to block true serves zero_if =
@@ -160,7 +178,8 @@ lies plant is next (along node _ reached leads) number at =
         let after = found (slice_get plant.blocks.afters i) (λ a. a ≡ None → ⊥) (services_have_blocks plant is i number goes) in
         behind i goes after.0 after.1 after.2
       where
-        behind : (i : ℕ) → successor plant.flow i ≡ Some number → (a : Option ℕ) → slice_get plant.blocks.afters i ≡ Some a → (a ≡ None → ⊥) → (block : ℕ) × HasNode plant number block
+        behind : (i : ℕ) → successor plant.flow i ≡ Some number → (a : Option ℕ) → slice_get plant.blocks.afters i ≡ Some a → (a ≡ None → ⊥) → (block : ℕ)
+            × HasNode plant number block
         behind i goes None at' some = absurd (some refl)
         behind i goes (Some b) at' some =
             let there = found (slice_get plant.blocks.blocks b) (BeginsBehind plant i) (afters_begin plant is i b at') in

@@ -40,7 +40,8 @@ beside R [] [] k y zip at = absurd cc
 beside R [] (b ∷ ys) k y zip at = absurd zip
 beside R (a ∷ xs) [] k y zip at = absurd zip
 beside R (a ∷ xs) (b ∷ ys) zero y zip at = let same : b ≡ y = cc in record { mate = a; stands = refl; related = subst (R a) same zip.0 }
-beside R (a ∷ xs) (b ∷ ys) (suc k) y zip at = let more = beside R xs ys k y zip.1 at in record { mate = more.mate; stands = more.stands; related = more.related }
+beside R (a ∷ xs) (b ∷ ys) (suc k) y zip at = let more = beside R xs ys k y zip.1 at in
+    record { mate = more.mate; stands = more.stands; related = more.related }
 
 pub beside_first : {A B : Type 0} (R : A → B → Type 0) (xs : List A) (ys : List B) (k : ℕ) (x : A) → AllZip R xs ys → slice_get xs k ≡ Some x
     → (y : B) × (slice_get ys k ≡ Some y) × R x y
@@ -75,15 +76,18 @@ edges_keep (Some service) node Serving = (service_keeps node service (ends_by se
 edges_keep service node Indirect = tt
 edges_keep service node Breaking = tt
 
-edges_keep_at : (program : Program) (node : Node) (turn : Option Turn) → turn_at program.code node.address ≡ turn → All (Keeps node) (edges_of program.code node)
+edges_keep_at : (program : Program) (node : Node) (turn : Option Turn) → turn_at program.code node.address ≡ turn
+    → All (Keeps node) (edges_of program.code node)
 edges_keep_at program node None e = rw e (All-from_recursion (Keeps node) [] tt)
 edges_keep_at program node (Some turn) e =
-    rw e (All-from_recursion (Keeps node) (edges_by (service_at program.code node.address) node turn) (edges_keep (service_at program.code node.address) node turn))
+    rw e (All-from_recursion (Keeps node) (edges_by (service_at program.code node.address) node turn)
+    (edges_keep (service_at program.code node.address) node turn))
 
 pub edge_keeps : (program : Program) (node next : Node) (k : ℕ) (edge : Edge Node) → slice_get (edges_of program.code node) k ≡ Some edge → edge.to ≡ Some next
     → next.context ≡ node.context
 edge_keeps program node next k edge at to =
-    let kept : Keeps node edge = at_slice (Keeps node) (edges_of program.code node) k edge (edges_keep_at program node (turn_at program.code node.address) refl) at in
+    let kept : Keeps node edge = at_slice (Keeps node) (edges_of program.code node) k edge (edges_keep_at program node (turn_at program.code node.address) refl)
+    at in
     subst (λ o. IfSome o (λ (n : Node). n.context ≡ node.context)) to kept
 
 -- ---- Contexts of nodes
@@ -140,4 +144,13 @@ edge_between program flow number next graph edge = go (slice_get flow.leaving nu
         ap (λ p. slice_get (option_map_or (λ (l : Leaving). l.edges) p []) edge.number) (sym e) ∙ edge.leaves in
         let mate = beside (IsEdge flow.nodes) (edges_of program.code here.mate) leaving.edges edge.number edge.edge here.related.edges_are at in
         let there = target_there flow.nodes mate.mate.to number next edge.edge.to edge.arrives mate.related.to_is in
-        record { node = here.mate; stands = here.stands; target = there.0; stands_too = there.2; place = edge.number; edge = mate.mate; leaves = mate.stands; arrives = there.1 }
+        record {
+          node = here.mate;
+          stands = here.stands;
+          target = there.0;
+          stands_too = there.2;
+          place = edge.number;
+          edge = mate.mate;
+          leaves = mate.stands;
+          arrives = there.1;
+        }

@@ -8,4 +8,5 @@ pub mod BeginFacts
 pub mod BeginLists
 pub mod Rooting
 pub mod Searching
+pub mod StringNodes
 pub mod TableSteps

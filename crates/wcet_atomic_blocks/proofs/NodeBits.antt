@@ -25,7 +25,8 @@ other_bit words node word other i inside is differ at =
     elim (cases_eq i (node / 64)) [
       | inl same ↦
           let differs : other % 64 ≢ node % 64 = λ e. differ (omega (arith, e, same, at)) in
-          subst (λ (j : ℕ). bit_at (get_or (set words (node / 64) (with_bit word (node % 64))) j 0) (other % 64) ≡ bit_at (get_or words j 0) (other % 64)) (sym same)
+          subst (λ (j : ℕ). bit_at (get_or (set words (node / 64) (with_bit word (node % 64))) j 0) (other % 64) ≡ bit_at (get_or words j 0) (other % 64))
+          (sym same)
           (ap (λ w. bit_at w (other % 64)) (get_or-set_same words (node / 64) (with_bit word (node % 64)) 0 inside)
           ∙ bit_at_set_other w64 word (node % 64) (omega arith) (other % 64) differs ∙ ap (λ w. bit_at w (other % 64)) (sym is))
       | inr apart ↦ ap (λ w. bit_at w (other % 64)) (get_or-set_other words (node / 64) i (with_bit word (node % 64)) 0 apart)

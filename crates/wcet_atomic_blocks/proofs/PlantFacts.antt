@@ -32,7 +32,13 @@ pub edges_keep_context : (plant : PlantData) → IsPlant plant → EdgesKeepCont
 unfolding EdgesKeepContext
 edges_keep_context plant is node next edge =
     let e = edge_in plant is node next edge in
-    record { before = e.node; stands = e.stands; after = e.target; stands_too = e.stands_too; same = edge_keeps (program_in plant) e.node e.target e.place e.edge e.leaves e.arrives }
+    record {
+      before = e.node;
+      stands = e.stands;
+      after = e.target;
+      stands_too = e.stands_too;
+      same = edge_keeps (program_in plant) e.node e.target e.place e.edge e.leaves e.arrives;
+    }
 
 -- ---- Blocks
 
@@ -53,9 +59,13 @@ beginning_is : (plant : PlantData) → (p : IsPlant plant) → (number : ℕ) (b
     → IsBeginning plant.flow 0 p.blocks.entries block.begin
 beginning_is plant p number block at =
     let there : slice_get (beginnings plant.flow p.blocks.entries) number ≡ Some block.begin =
-    ap (λ bs. slice_get bs number) (sym p.blocks.cut.begin) ∙ slice_get-map (λ (b : Block). b.begin) plant.blocks.blocks number ∙ ap (option_map (λ (b : Block). b.begin)) at in
-    each_beginning plant.flow 0 p.blocks.entries block.begin
-    (number, slice_get_within (beginnings plant.flow p.blocks.entries) number block.begin there, get_or_from_slice_get (beginnings plant.flow p.blocks.entries) number block.begin block.begin there)
+    ap (λ bs. slice_get bs number) (sym p.blocks.cut.begin) ∙ slice_get-map (λ (b : Block). b.begin) plant.blocks.blocks number
+    ∙ ap (option_map (λ (b : Block). b.begin)) at in
+    each_beginning plant.flow 0 p.blocks.entries block.begin (
+      number,
+      slice_get_within (beginnings plant.flow p.blocks.entries) number block.begin there,
+      get_or_from_slice_get (beginnings plant.flow p.blocks.entries) number block.begin block.begin there,
+    )
 
 -- a fact of what is there
 there_in : {X : Type 0} (o : Option X) (x : X) (P : X → Type 0) → o ≡ Some x → IsSomeAnd o P → P x
@@ -70,10 +80,12 @@ entry_node plant p context number at =
     (p.blocks.entered.each context (omega (arith, inside, same)))
 
 -- a node of that number is of that context
-is_of_there : (flow : Flow) (context number : ℕ) (node : Node) → slice_get flow.nodes number ≡ Some node → node.context ≡ context → is_of flow context number ≡ true
+is_of_there : (flow : Flow) (context number : ℕ) (node : Node) → slice_get flow.nodes number ≡ Some node → node.context ≡ context
+    → is_of flow context number ≡ true
 is_of_there flow context number node at same = ap (λ o. option_map_or (λ (n : Node). eqb n.context context) o false) at ∙ eq-eqb node.context context same
 
-context_there : (flow : Flow) (context number : ℕ) (node : Node) → slice_get flow.nodes number ≡ Some node → is_of flow context number ≡ true → node.context ≡ context
+context_there : (flow : Flow) (context number : ℕ) (node : Node) → slice_get flow.nodes number ≡ Some node → is_of flow context number ≡ true
+    → node.context ≡ context
 context_there flow context number node at of =
     eqb-true node.context context (ap (λ o. option_map_or (λ (n : Node). eqb n.context context) o false) (sym at) ∙ of)
 
@@ -84,13 +96,15 @@ edge_of_context plant is context node next of edge =
     is_of_there plant.flow context next e.target e.stands_too
     (edge_keeps (program_in plant) e.node e.target e.place e.edge e.leaves e.arrives ∙ context_there plant.flow context node e.node e.stands of)
 
-first_of_owner : (plant : PlantData) → (p : IsPlant plant) → (b : Beginning) → IsBeginning plant.flow 0 p.blocks.entries b → is_of plant.flow b.owner b.first ≡ true
+first_of_owner : (plant : PlantData) → (p : IsPlant plant) → (b : Beginning) → IsBeginning plant.flow 0 p.blocks.entries b
+    → is_of plant.flow b.owner b.first ≡ true
 first_of_owner plant p b (entry place node at is) =
     let e = entry_node plant p place node at in
     subst (λ (c : Beginning). is_of plant.flow c.owner c.first ≡ true) (sym is)
     (is_of_there plant.flow (0 + place) node e.node e.stands (let same = e.context_is in omega (arith, same)))
 first_of_owner plant p b (service place node next inside exists of goes is) =
-    subst (λ (c : Beginning). is_of plant.flow c.owner c.first ≡ true) (sym is) (edge_of_context plant p (0 + place) node next of (successor_edge plant.flow node next goes).1)
+    subst (λ (c : Beginning). is_of plant.flow c.owner c.first ≡ true) (sym is)
+    (edge_of_context plant p (0 + place) node next of (successor_edge plant.flow node next goes).1)
 
 members_of : (plant : PlantData) → IsPlant plant → (context first : ℕ) → is_of plant.flow context first ≡ true → (node : ℕ) → IsInBlock plant.flow first node
     → is_of plant.flow context node ≡ true
@@ -123,8 +137,10 @@ entries_begin plant is context inside =
     of_beginning b owner after (entry place node at e) =
         let here : context ≡ place = sym owner ∙ ap (λ (c : Beginning). c.owner) e ∙ omega arith in
         let first : b.first ≡ node = ap (λ (c : Beginning). c.first) e in
-        subst (IsEntryNode (entries_of plant.image plant.system) plant.flow context) (sym first) (entry_node plant is context node (ap (slice_get is.blocks.entries) here ∙ at))
-    of_beginning b owner after (service place node next within exists of goes e) = absurd (let a : Some node ≡ None = ap (λ (c : Beginning). c.after) (sym e) ∙ after in cc)
+        subst (IsEntryNode (entries_of plant.image plant.system) plant.flow context) (sym first)
+        (entry_node plant is context node (ap (slice_get is.blocks.entries) here ∙ at))
+    of_beginning b owner after (service place node next within exists of goes e) =
+        absurd (let a : Some node ≡ None = ap (λ (c : Beginning). c.after) (sym e) ∙ after in cc)
 
     go : (number : ℕ) (block : Block) → slice_get plant.blocks.blocks number ≡ Some block → IsEntryBlock context block → BeginsAtEntry plant context block
     go number block there entered = record {
@@ -138,12 +154,14 @@ named_behind : (plant : PlantData) → IsPlant plant → (node number : ℕ) →
     → IsSomeAnd (slice_get plant.blocks.blocks number) (λ block. block.begin.after ≡ Some node)
 named_behind plant is node number at =
     let inside = slice_get_within plant.blocks.afters node (Some number) at in let same = is.blocks.cut.after_count in
-    there_in (slice_get plant.blocks.afters node) (Some number) (IsAfter plant.flow plant.blocks.blocks node) at (is.blocks.cut.after node (omega (arith, inside, same)))
+    there_in (slice_get plant.blocks.afters node) (Some number) (IsAfter plant.flow plant.blocks.blocks node) at
+    (is.blocks.cut.after node (omega (arith, inside, same)))
 
 pub afters_begin : (plant : PlantData) → IsPlant plant → AftersBegin plant
 unfolding AftersBegin
 afters_begin plant is node number at =
-    some_at (slice_get plant.blocks.blocks number) (λ block there after. of_beginning block after (beginning_is plant is number block there)) (named_behind plant is node number at)
+    some_at (slice_get plant.blocks.blocks number) (λ block there after. of_beginning block after (beginning_is plant is number block there))
+    (named_behind plant is node number at)
   where
     of_beginning : (block : Block) → block.begin.after ≡ Some node → IsBeginning plant.flow 0 is.blocks.entries block.begin → BeginsBehind plant node block
     of_beginning block after (entry place first at' e) = absurd (let a : None ≡ Some node = ap (λ (c : Beginning). c.after) (sym e) ∙ after in cc)

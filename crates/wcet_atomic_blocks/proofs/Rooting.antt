@@ -1,5 +1,5 @@
 -- That each context begins at a node, and which numbers these nodes have.
-use Rattle.std.proofs.Common.{◌≡◌, ℕ, suc, zero, ◌+◌, ◌<◌, ◌≤◌, inl, inr, Bool, true, false, cond, List, [], ◌∷◌, ◌++◌, length, get_or, arith, ap, ◌∙◌, subst, sym, refl, Option, Some, None}
+use Rattle.std.proofs.Common.{◌≡◌, ℕ, suc, zero, ◌<◌, ◌≤◌, inl, inr, Bool, true, false, cond, List, [], ◌∷◌, length, get_or, arith, ap, ◌∙◌, subst, sym, refl, Option, Some, None}
 use Rattle.std.specs.Prelude.{nat_eq, nat_lt, not, slice_get, is_none, position, option_and_then, IsSomeAnd}
 use Rattle.std.specs.Option.{option_map_or}
 use Rattle.std.specs.List.{prefix_len}
@@ -7,33 +7,22 @@ use Rattle.std.proofs.lemmas.Bool.{eq-eqb, cases_lt, lt-ltb}
 use Rattle.std.proofs.lemmas.Option.{slice_get-get_or, slice_get_within}
 use Rattle.elf_image.specs.Image.{ImageData}
 use Rattle.oil_model.specs.declared.system.System.{System}
-use Rattle.osek_kernel.specs.Contexts.{context_at, entry_of}
 use Rattle.timing_file.specs.declared.timing.Timing.{Timing}
 use Rattle.flow_graph.specs.declared.fault.CodeFault.{CodeFault}
 use Rattle.flow_graph.specs.declared.flow.Flow.{Flow}
 use Rattle.flow_graph.specs.declared.node.Node.{Node}
 use Rattle.flow_graph.specs.Faults.{is_entry_of, entry}
-use Rattle.flow_graph.specs.Graph.{program_of, entries_from, entries_of}
+use Rattle.flow_graph.specs.Graph.{program_of, entries_of}
 use Rattle.flow_graph.specs.Judging.{IsLeaving, names_fit, entry_fault, alarm_fault}
 use Rattle.wcet_atomic_blocks.specs.Blocks.{IsWhole}
-use Rattle.wcet_atomic_blocks.specs.Plants.{IsEntryNode, AreEntries, HaveGraph}
+use Rattle.wcet_atomic_blocks.specs.Plants.{IsEntryNode, AreEntries, IsGraphOf}
 use Rattle.wcet_atomic_blocks.specs.Working.Rooted.{AreEntriesAmong, IsRooted}
 use Rattle.wcet_atomic_blocks.proofs.GraphFacts.{zip_length, edge_between, context_exists}
 
--- ---- Addresses of entries
-
-pub addresses_more : (image : ImageData) (system : System) (place count last : ℕ) → place + count ≡ last
-    → entries_from image system place (count + 1) ≡ entries_from image system place count ++ entry_of image system (context_at system last) ∷ []
-addresses_more image system place count last at = ap (entries_from image system place) (let e : count + 1 ≡ suc count = omega arith in e) ∙ go place count last at
-  where
-    go : (place count last : ℕ) → place + count ≡ last
-        → entries_from image system place (suc count) ≡ entries_from image system place count ++ entry_of image system (context_at system last) ∷ []
-    go place zero last at = ap (λ p. entry_of image system (context_at system p) ∷ []) (omega (arith, at))
-    go place (suc count) last at = ap (λ xs. entry_of image system (context_at system place) ∷ xs) (go (suc place) count last (omega (arith, at)))
-
 -- ---- Each context has an address
 
-no_fault : (fit : Bool) (missing : Option ℕ) (others : Option CodeFault) (name : CodeFault) → cond fit (entry_fault missing others) (Some name) ≡ None → missing ≡ None
+no_fault : (fit : Bool) (missing : Option ℕ) (others : Option CodeFault) (name : CodeFault) → cond fit (entry_fault missing others) (Some name) ≡ None
+    → missing ≡ None
 no_fault true None others name e = refl
 no_fault true (Some context) others name e = absurd cc
 no_fault false missing others name e = absurd cc
@@ -63,10 +52,12 @@ entry_at : (addresses : List (Option ℕ)) (context address : ℕ) → slice_get
 entry_at addresses context address at =
     ap (λ o. option_map_or (nat_eq address) (option_and_then (λ (a : Option ℕ). a) o) false) at ∙ eq-eqb address address refl
 
-pub is_rooted : (image : ImageData) (system : System) (timing : Timing) (flow : Flow) → HaveGraph image system timing flow → IsRooted (entries_of image system) flow
+pub is_rooted : (image : ImageData) (system : System) (timing : Timing) (flow : Flow) → IsGraphOf image system timing flow
+    → IsRooted (entries_of image system) flow
 is_rooted image system timing flow have = record {
   leaving = sym (zip_length (IsLeaving (program_of image system timing) flow.nodes) flow.nodes flow.leaving have.graph.leaving);
-  edges = λ node next edge. let e = edge_between (program_of image system timing) flow node next have.graph edge in slice_get_within flow.nodes next e.target e.stands_too;
+  edges = λ node next edge. let e = edge_between (program_of image system timing) flow node next have.graph edge in
+      slice_get_within flow.nodes next e.target e.stands_too;
   contexts = λ k d inside. context_exists (program_of image system timing) (get_or flow.nodes k d) (have.graph.nodes.are.reached k d inside);
   roots = λ context inside. root context inside;
 }
@@ -93,22 +84,26 @@ number_there addresses flow entries context among number root =
 pub are_entered : (addresses given : List (Option ℕ)) (flow : Flow) (entries slice : List ℕ) → given ≡ addresses → slice ≡ entries → IsRooted addresses flow
     → AreEntriesAmong given flow (length flow.nodes) entries → AreEntries addresses flow slice
 are_entered addresses given flow entries slice same same_too rooted among =
-    let named : AreEntriesAmong addresses flow (length flow.nodes) entries = subst (λ (a : List (Option ℕ)). AreEntriesAmong a flow (length flow.nodes) entries) same among in
+    let named : AreEntriesAmong addresses flow (length flow.nodes) entries =
+    subst (λ (a : List (Option ℕ)). AreEntriesAmong a flow (length flow.nodes) entries) same among in
     subst (AreEntries addresses flow) (sym same_too) (record {
       count = named.long;
       each = λ context inside. let root = rooted.roots context inside in number_there addresses flow entries context named root.0 root.1;
     })
 
-exists_at : (addresses : List (Option ℕ)) (flow : Flow) (context : ℕ) (o : Option ℕ) (number : ℕ) → o ≡ Some number → IsSomeAnd o (IsEntryNode addresses flow context) → number < length flow.nodes
+exists_at : (addresses : List (Option ℕ)) (flow : Flow) (context : ℕ) (o : Option ℕ) (number : ℕ) → o ≡ Some number
+    → IsSomeAnd o (IsEntryNode addresses flow context) → number < length flow.nodes
 exists_at addresses flow context None number e is = absurd cc
 exists_at addresses flow context (Some other) number e is =
     let same : other ≡ number = cc in subst (λ (n : ℕ). n < length flow.nodes) same (slice_get_within flow.nodes other is.node is.stands)
 
-pub is_whole : (addresses : List (Option ℕ)) (flow : Flow) (entries : List ℕ) → IsRooted addresses flow → AreEntries addresses flow entries → IsWhole flow entries
+pub is_whole : (addresses : List (Option ℕ)) (flow : Flow) (entries : List ℕ) → IsRooted addresses flow → AreEntries addresses flow entries
+    → IsWhole flow entries
 is_whole addresses flow entries rooted entered = record {
   leaving = rooted.leaving;
   edges = rooted.edges;
   contexts = λ k d inside. let below = rooted.contexts k d inside in let same = entered.count in omega (arith, below, same);
   entry_nodes = λ k d inside. let same = entered.count in
-      exists_at addresses flow k (slice_get entries k) (get_or entries k d) (slice_get-get_or entries k d inside) (entered.each k (omega (arith, same, inside)));
+      exists_at addresses flow k (slice_get entries k) (get_or entries k d) (slice_get-get_or entries k d inside)
+      (entered.each k (omega (arith, same, inside)));
 }

@@ -88,7 +88,8 @@ search_begins flow first set set' pending' none (anew missing inserted listed) =
       begun = inserted.there;
       sound = λ node held. begins node (alone node held);
       found = λ node is. subst (λ (n : ℕ). holds set' n ≡ true) (only node (subst (λ (p : List ℕ). Contains p node) listed is)) inserted.there;
-      followed = λ node held. inl (subst (λ (p : List ℕ). Contains p node) (sym listed) (subst (λ (n : ℕ). Contains (first ∷ []) n) (sym (alone node held)) (Contains-push [] first)));
+      followed = λ node held. inl (subst (λ (p : List ℕ). Contains p node) (sym listed)
+          (subst (λ (n : ℕ). Contains (first ∷ []) n) (sym (alone node held)) (Contains-push [] first)));
     }
   where
     only : (node : ℕ) → Contains ([] ++ first ∷ []) node → first ≡ node
@@ -101,7 +102,8 @@ search_pops flow first node set pending rest listed before = record {
   begun = before.begun;
   sound = before.sound;
   found = λ other is. before.found other (back other is);
-  followed = λ other held. elim (before.followed other held) [ inl is ↦ inl (forth other (subst (λ (p : List ℕ). Contains p other) listed is)) | inr done ↦ inr done ];
+  followed = λ other held. elim (before.followed other held)
+      [ inl is ↦ inl (forth other (subst (λ (p : List ℕ). Contains p other) listed is)) | inr done ↦ inr done ];
 }
   where
     back : (other : ℕ) → Contains (node ∷ rest) other → Contains pending other
@@ -219,7 +221,8 @@ visiting_visits edges count d next set pending set' pending' set'' pending'' ins
       search_visits flow first node next set' pending' set'' pending'' plain (edges_are count next (leads_at edges count d next inside to)) visits
       (visiting.search flow first node plain edges_are before);
   held = λ k other below leads. elim (cases_eq k count) [
-    | inl same ↦ subst (λ (n : ℕ). holds set'' n ≡ true) (there other (subst (λ (i : ℕ). LeadsAt edges i other) same leads)) (visits_hold next set' pending' set'' pending'' visits)
+    | inl same ↦ subst (λ (n : ℕ). holds set'' n ≡ true) (there other (subst (λ (i : ℕ). LeadsAt edges i other) same leads))
+        (visits_hold next set' pending' set'' pending'' visits)
     | inr differ ↦ visits_keep next set' pending' set'' pending'' visits other (visiting.held k other (omega (arith, differ)) leads)
   ];
 }
@@ -236,13 +239,15 @@ members_exist flow first count edges exists node (begins _ same) = omega (arith,
 members_exist flow first count edges exists next (along node _ inside plain edge) = edges node next edge
 
 -- an ECALL isn't followed
-pub look_passes : (flow : Flow) (node : ℕ) (leaving : Leaving) (set pending : List ℕ) → slice_get flow.leaving node ≡ Some leaving → is_some leaving.service ≡ true
+pub look_passes : (flow : Flow) (node : ℕ) (leaving : Leaving) (set pending : List ℕ) → slice_get flow.leaving node ≡ Some leaving
+    → is_some leaving.service ≡ true
     → (first : ℕ) → IsSearch flow first set (node ∷ pending) → IsSearch flow first set pending
 look_passes flow node leaving set pending at serves first before =
     let service : is_service flow node ≡ true = ap (λ o. option_map_or (λ (l : Leaving). is_some l.service) o false) at ∙ serves in
     search_follows flow first node set pending (record { each = λ plain. absurd (let e = sym service ∙ plain in cc) }) before
 
-pub edge_of : (flow : Flow) (node : ℕ) (leaving : Leaving) → slice_get flow.leaving node ≡ Some leaving → (k next : ℕ) → LeadsAt leaving.edges k next → HasEdge flow node next
+pub edge_of : (flow : Flow) (node : ℕ) (leaving : Leaving) → slice_get flow.leaving node ≡ Some leaving → (k next : ℕ) → LeadsAt leaving.edges k next
+    → HasEdge flow node next
 edge_of flow node leaving at k next leads = record {
   number = k;
   edge = leads.0;
@@ -264,7 +269,8 @@ look_follows flow node leaving set pending set' pending' at plain visiting first
     let after : IsSearch flow first set' (node ∷ pending') = visiting.search flow first node apart (edge_of flow node leaving at) before in
     search_follows flow first node set' pending' (record {
       each = λ _ next edge.
-          visiting.held edge.number next (slice_get_within leaving.edges edge.number edge.edge (of_edge flow node leaving at next edge).1) (of_edge flow node leaving at next edge);
+          visiting.held edge.number next (slice_get_within leaving.edges edge.number edge.edge (of_edge flow node leaving at next edge).1)
+          (of_edge flow node leaving at next edge);
     }) after
 
 -- what follows where a call went well

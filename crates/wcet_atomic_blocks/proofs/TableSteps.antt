@@ -36,7 +36,8 @@ pub entries_begin : (begins : List Beginning) (contexts : ℕ) (table : List ℕ
 entries_begin begins contexts table long = record { long = long; each = λ number context below. absurd (omega arith) }
 
 -- a beginning behind a service
-pub entries_pass : (begins : List Beginning) (number contexts : ℕ) (d : Beginning) (table : List ℕ) → number < length begins → is_none (get_or begins number d).after ≡ false
+pub entries_pass : (begins : List Beginning) (number contexts : ℕ) (d : Beginning) (table : List ℕ) → number < length begins
+    → is_none (get_or begins number d).after ≡ false
     → AreEntriesBelow begins number contexts table → AreEntriesBelow begins (number + 1) contexts table
 entries_pass begins number contexts d table inside behind entries = record {
   long = entries.long;
@@ -55,13 +56,15 @@ entries_pass begins number contexts d table inside behind entries = record {
         cc
 
 -- the beginning of an entry
-pub entries_set : (begins : List Beginning) (number contexts : ℕ) (d : Beginning) (table : List ℕ) → number < length begins → is_none (get_or begins number d).after ≡ true
+pub entries_set : (begins : List Beginning) (number contexts : ℕ) (d : Beginning) (table : List ℕ) → number < length begins
+    → is_none (get_or begins number d).after ≡ true
     → (get_or begins number d).owner < contexts → AreEntriesBelow begins number contexts table
     → AreEntriesBelow begins (number + 1) contexts (set table (get_or begins number d).owner number)
 entries_set begins number contexts d table inside behind below entries = record {
   long = length-set table owner number ∙ entries.long;
   each = λ i context before is. elim (cases_eq context owner) [
-    | inl same ↦ subst (λ o. IsSomeAnd o (IsEntryAt begins context)) (sym (ap (slice_get (set table owner number)) same ∙ slice_get-set_same table owner number (omega (arith, entries.long))))
+    | inl same ↦ subst (λ o. IsSomeAnd o (IsEntryAt begins context))
+        (sym (ap (slice_get (set table owner number)) same ∙ slice_get-set_same table owner number (omega (arith, entries.long))))
         (subst (λ (c : ℕ). IsEntryAt begins c number) (sym same) here)
     | inr differ ↦ subst (λ o. IsSomeAnd o (IsEntryAt begins context)) (sym (slice_get-set_other table owner context number differ))
         (entries.each i context (earlier i context before is differ) is)
@@ -76,7 +79,12 @@ entries_set begins number contexts d table inside behind below entries = record 
     none (Some n) e = absurd cc
 
     here : IsEntryAt begins owner number
-    here = record { begin = get_or begins number d; stands = stands_at begins number d inside; owner = refl; after = none (get_or begins number d).after behind }
+    here = record {
+      begin = get_or begins number d;
+      stands = stands_at begins number d inside;
+      owner = refl;
+      after = none (get_or begins number d).after behind;
+    }
 
     earlier : (i context : ℕ) → i < number + 1 → IsEntryAt begins context i → context ≢ owner → i < number
     earlier i context before is differ = elim (cases_eq i number) [
@@ -98,7 +106,8 @@ afters_begin begins nodes table is = record {
 }
 
 -- what was found among the first so many, and not at the next one, is found among one more
-found_more : (begins : List Beginning) (count node : ℕ) (o : Option ℕ) → (IsBehindAt begins node count → ⊥) → IsFound begins count node o → IsFound begins (count + 1) node o
+found_more : (begins : List Beginning) (count node : ℕ) (o : Option ℕ) → (IsBehindAt begins node count → ⊥) → IsFound begins count node o
+    → IsFound begins (count + 1) node o
 found_more begins count node (Some number) wrong found = found
 found_more begins count node None wrong found =
     λ number below is. elim (cases_eq number count) [
@@ -106,12 +115,14 @@ found_more begins count node None wrong found =
       | inr differ ↦ found number (omega (arith, differ)) is
     ]
 
-found_more_at : (begins : List Beginning) (count node : ℕ) (o : Option (Option ℕ)) → (IsBehindAt begins node count → ⊥) → IsSomeAnd o (IsFound begins count node)
+found_more_at : (begins : List Beginning) (count node : ℕ) (o : Option (Option ℕ)) → (IsBehindAt begins node count → ⊥)
+    → IsSomeAnd o (IsFound begins count node)
     → IsSomeAnd o (IsFound begins (count + 1) node)
 found_more_at begins count node (Some o) wrong found = found_more begins count node o wrong found
 found_more_at begins count node None wrong found = found
 
-behind_there : (begins : List Beginning) (number : ℕ) (d : Beginning) (node : ℕ) → number < length begins → IsBehindAt begins node number → (get_or begins number d).after ≡ Some node
+behind_there : (begins : List Beginning) (number : ℕ) (d : Beginning) (node : ℕ) → number < length begins → IsBehindAt begins node number
+    → (get_or begins number d).after ≡ Some node
 behind_there begins number d node inside is =
     let at : Some (get_or begins number d) ≡ Some is.begin = sym (stands_at begins number d inside) ∙ is.stands in
     let there : is.begin.after ≡ Some node = is.after in
@@ -124,7 +135,8 @@ pub afters_pass : (begins : List Beginning) (number nodes : ℕ) (d : Beginning)
     → AreAftersBelow begins number nodes table → AreAftersBelow begins (number + 1) nodes table
 afters_pass begins number nodes d table inside entry afters = record {
   long = afters.long;
-  each = λ node below. found_more_at begins number node (slice_get table node) (λ is. entry node (behind_there begins number d node inside is)) (afters.each node below);
+  each = λ node below. found_more_at begins number node (slice_get table node) (λ is. entry node (behind_there begins number d node inside is))
+      (afters.each node below);
 }
 
 -- a beginning behind a node
@@ -134,10 +146,12 @@ pub afters_set : (begins : List Beginning) (number nodes : ℕ) (d : Beginning) 
 afters_set begins number nodes d table node inside behind exists afters = record {
   long = length-set table node (Some number) ∙ afters.long;
   each = λ other below. elim (cases_eq other node) [
-    | inl same ↦ subst (λ o. IsSomeAnd o (IsFound begins (number + 1) other)) (sym (ap (slice_get (set table node (Some number))) same ∙ slice_get-set_same table node (Some number) (omega (arith, afters.long))))
+    | inl same ↦ subst (λ o. IsSomeAnd o (IsFound begins (number + 1) other))
+        (sym (ap (slice_get (set table node (Some number))) same ∙ slice_get-set_same table node (Some number) (omega (arith, afters.long))))
         (subst (λ (n : ℕ). IsBehindAt begins n number) (sym same) here)
     | inr differ ↦ subst (λ o. IsSomeAnd o (IsFound begins (number + 1) other)) (sym (slice_get-set_other table node other (Some number) differ))
-        (found_more_at begins number other (slice_get table other) (λ is. differ (let e = behind_there begins number d other inside is in cc)) (afters.each other below))
+        (found_more_at begins number other (slice_get table other) (λ is. differ (let e = behind_there begins number d other inside is in cc))
+        (afters.each other below))
   ];
 }
   where

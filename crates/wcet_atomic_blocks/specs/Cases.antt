@@ -70,3 +70,30 @@ loop_case
     : loop_instances looped (entry_block ∷ []) (around ∷ [])
     ≡ record { context = 0; declared = 0; backs = edge_id 2 1 ∷ []; entering = edge_id 0 0 ∷ []; blocks = []; within = 1 ∷ 2 ∷ 4 ∷ [] } ∷ []
 loop_case = refl
+
+-- ---- A loop in a function that is called twice: 0x200 branches to itself, and 0x204 returns
+
+abbrev called_twice : Flow
+called_twice = record {
+  nodes = node_of 0 [] 0x100 ∷ node_of 0 [] 0x104 ∷ node_of 0 [] 0x108
+      ∷ node_of 0 (0x100 ∷ []) 0x200 ∷ node_of 0 (0x100 ∷ []) 0x204
+      ∷ node_of 0 (0x104 ∷ []) 0x200 ∷ node_of 0 (0x104 ∷ []) 0x204 ∷ [];
+  leaving = plain_to kinds.Call 3 ∷ plain_to kinds.Call 5 ∷ serving 2 0 None
+      ∷ branch_to 4 3 ∷ plain_to kinds.Return 1
+      ∷ branch_to 6 5 ∷ plain_to kinds.Return 2 ∷ [];
+}
+
+abbrev whole_block : Block
+whole_block = record { begin = at_entry 0 0; nodes = 0x7f ∷ []; exits = 2 ∷ [] }
+
+abbrev itself : Loop
+itself = record { from = 0x200; to = 0x200; bound = 5 }
+
+-- one instance for each string, which its own call enters
+strings_case
+    : loop_instances called_twice (whole_block ∷ []) (around ∷ itself ∷ [])
+    ≡ record { context = 0; declared = 0; backs = edge_id 3 1 ∷ []; entering = edge_id 0 0 ∷ []; blocks = []; within = 3 ∷ 4 ∷ [] }
+    ∷ record { context = 0; declared = 1; backs = edge_id 3 1 ∷ []; entering = edge_id 0 0 ∷ []; blocks = []; within = 3 ∷ [] }
+    ∷ record { context = 0; declared = 0; backs = edge_id 5 1 ∷ []; entering = edge_id 1 0 ∷ []; blocks = []; within = 5 ∷ 6 ∷ [] }
+    ∷ record { context = 0; declared = 1; backs = edge_id 5 1 ∷ []; entering = edge_id 1 0 ∷ []; blocks = []; within = 5 ∷ [] } ∷ []
+strings_case = refl

@@ -1,8 +1,8 @@
--- Loop instances: what a declared loop is for one context with one string of open calls. The nodes of a
--- code graph are in order, so those of one string stand together, from the first of them on, its head.
-use Rattle.std.specs.Prelude.{ℕ, zero, suc, ◌-◌, Bool, true, false, not, ◌&&◌, ◌||◌, ◌==◌, nat_eq, nat_lt, List, [], ◌∷◌, length, map, filter, filter_map, slice_get, Option, Some, None, option_and_then, if◌then◌else◌}
+-- Loop instances: what a declared loop is for one context with one string of open calls. A string is told
+-- by one of its nodes, its head.
+use Rattle.std.specs.Prelude.{ℕ, ◌-◌, Bool, true, false, not, ◌&&◌, ◌||◌, ◌==◌, nat_eq, nat_lt, List, [], length, map, filter, filter_map, slice_get, Option, Some, None, option_and_then, if◌then◌else◌}
 use Rattle.std.specs.Cmp.Lexicographic.{pointwise}
-use Rattle.std.specs.List.{range_with_len, flat_map, starts_with}
+use Rattle.std.specs.List.{range_with_len, flat_map, list_any, starts_with}
 use Rattle.std.specs.Option.{option_map_or}
 use Rattle.timing_file.specs.declared.timing.Loop.{Loop}
 use Rattle.timing_file.specs.Costs.{lies_in}
@@ -96,54 +96,45 @@ block_enters flow blocks head l number = option_map_or (λ block. enters flow he
 
 -- ---- Instances
 
--- the nodes from one on that have the head's string, up to the first one that hasn't
-abbrev pub run_from : Flow → Node → ℕ → ℕ → List ℕ
-run_from flow head number zero = []
-run_from flow head number (suc more) =
-    if node_passes flow (same_string head) number then number ∷ run_from flow head (suc number) more else []
+-- all edges of the flow that pass, and all nodes, in order
+abbrev pub passing_edges : Flow → (Node → EdgeKind → Node → Bool) → List EdgeId
+passing_edges flow test = filter (id_passes flow test) (flat_map (edges_from flow) (range_with_len 0 (length flow.nodes)))
 
--- the nodes of a string, by its head's number
-abbrev pub run_of : Flow → Node → ℕ → List ℕ
-run_of flow head number = run_from flow head number (length flow.nodes - number)
+abbrev pub passing_nodes : Flow → (Node → Bool) → List ℕ
+passing_nodes flow test = filter (node_passes flow test) (range_with_len 0 (length flow.nodes))
 
-abbrev pub backs_of : Flow → Node → ℕ → Loop → List EdgeId
-backs_of flow head number l = filter (id_passes flow (is_back head l)) (flat_map (edges_from flow) (run_of flow head number))
-
-abbrev pub entering_of : Flow → Node → Loop → List EdgeId
-entering_of flow head l =
-    filter (id_passes flow (is_entering head l)) (flat_map (edges_from flow) (range_with_len 0 (length flow.nodes)))
-
-abbrev pub instance_of : Flow → List Block → Node → ℕ → ℕ → Loop → LoopInstance
-instance_of flow blocks head number declared l = record {
+abbrev pub instance_of : Flow → List Block → Node → ℕ → Loop → LoopInstance
+instance_of flow blocks head declared l = record {
   context = head.context;
   declared = declared;
-  backs = backs_of flow head number l;
-  entering = entering_of flow head l;
+  backs = passing_edges flow (is_back head l);
+  entering = passing_edges flow (is_entering head l);
   blocks = filter (block_enters flow blocks head l) (range_with_len 0 (length blocks));
-  within = filter (node_passes flow (lies_within head l)) (range_with_len 0 (length flow.nodes));
+  within = passing_nodes flow (lies_within head l);
 }
 
 -- the instance of a declared loop, if it has a back edge
-abbrev pub instance_at : Flow → List Block → Node → ℕ → ℕ → Loop → Option LoopInstance
-instance_at flow blocks head number declared l =
-    if nat_lt 0 (length (backs_of flow head number l)) then Some (instance_of flow blocks head number declared l) else None
+abbrev pub instance_at : Flow → List Block → Node → ℕ → Loop → Option LoopInstance
+instance_at flow blocks head declared l =
+    if nat_lt 0 (length (passing_edges flow (is_back head l))) then Some (instance_of flow blocks head declared l) else None
 
-abbrev pub instances_at : Flow → List Block → List Loop → ℕ → Node → List LoopInstance
-instances_at flow blocks loops number head =
+abbrev pub instances_at : Flow → List Block → List Loop → Node → List LoopInstance
+instances_at flow blocks loops head =
     filter_map
-    (λ declared. option_and_then (instance_at flow blocks head number declared) (slice_get loops declared))
+    (λ declared. option_and_then (instance_at flow blocks head declared) (slice_get loops declared))
     (range_with_len 0 (length loops))
 
--- the first node of its string
-abbrev pub is_head : Flow → ℕ → Node → Bool
-is_head flow number node = not (nat_lt 0 number && node_passes flow (same_string node) (number - 1))
+-- the first node in order that has its context and string
+abbrev pub is_first : Flow → ℕ → Node → Bool
+is_first flow number node = not (list_any (node_passes flow (same_string node)) (range_with_len 0 number))
 
 abbrev pub instances_from : Flow → List Block → List Loop → ℕ → List LoopInstance
 instances_from flow blocks loops number =
     option_map_or
-    (λ node. if is_head flow number node then instances_at flow blocks loops number node else [])
+    (λ node. if is_first flow number node then instances_at flow blocks loops node else [])
     (slice_get flow.nodes number) []
 
--- The loop instances that have a back edge, by context, string and declared loop.
+-- The loop instances that have a back edge, by context, string and declared loop: those of each first
+-- node of a string, in the order of nodes.
 abbrev pub loop_instances : Flow → List Block → List Loop → List LoopInstance
 loop_instances flow blocks loops = flat_map (instances_from flow blocks loops) (range_with_len 0 (length flow.nodes))

@@ -10,7 +10,7 @@ use Rattle.wcet_atomic_blocks.specs.declared.fault.BlockFault.TheVariants as blo
 use Rattle.wcet_atomic_blocks.specs.declared.fault.PlantFault.{PlantFault}
 use Rattle.wcet_atomic_blocks.specs.declared.fault.PlantFault.TheVariants.{Code, Block, Memory}
 use Rattle.wcet_atomic_blocks.specs.Cutting.{block_count}
-use Rattle.wcet_atomic_blocks.specs.Plants.{PlantData, AreEntries, HaveGraph, HaveBlocks, HaveFault, IsPlantOf}
+use Rattle.wcet_atomic_blocks.specs.Plants.{PlantData, AreEntries, IsGraphOf, HaveBlocks, HaveFault, IsPlantOf}
 
 -- the flow has more than 4,095 blocks, this number of them
 pub record HasMany (image : ImageData) (system : System) (flow : Flow) (count : ℕ) : Type 0 where
@@ -40,7 +40,7 @@ AnswersFlow image system timing flow (Err fault) = ⊥
 -- the code graph of the three has more than 4,095 blocks, this number of them
 pub record HaveMany (image : ImageData) (system : System) (timing : Timing) (count : ℕ) : Type 0 where
   pub flow : Flow
-  pub graph : HaveGraph image system timing flow
+  pub graph : IsGraphOf image system timing flow
   pub many : HasMany image system flow count
 
 -- The plant of the three; a fault of their code, or the number of blocks where there are too many.

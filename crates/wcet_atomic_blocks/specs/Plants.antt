@@ -1,6 +1,7 @@
 -- Plants: an image, a system and a timing, with their code graph and its blocks.
 use Rattle.std.specs.Prelude.{◌≡◌, ℕ, ◌<◌, ◌≤◌, true, List, length, slice_get, Option, Some, None, IsSomeAnd}
 use Rattle.elf_image.specs.Image.{ImageData}
+use Rattle.elf_image.specs.Image.{IsLawful as IsLawfulImage}
 use Rattle.oil_model.specs.declared.system.System.{System}
 use Rattle.oil_model.specs.System.{IsLawful as IsLawfulSystem}
 use Rattle.timing_file.specs.declared.timing.Timing.{Timing}
@@ -40,7 +41,7 @@ pub record AreEntries (addresses : List (Option ℕ)) (flow : Flow) (entries : L
 -- ---- Plants
 
 -- The flow is the code graph of the three, and they have no fault.
-pub record HaveGraph (image : ImageData) (system : System) (timing : Timing) (flow : Flow) : Type 0 where
+pub record IsGraphOf (image : ImageData) (system : System) (timing : Timing) (flow : Flow) : Type 0 where
   pub early : early_fault system timing (entries_of image system) ≡ None
   pub graph : IsGraph (program_of image system timing) flow
 
@@ -52,9 +53,10 @@ pub record HaveBlocks (image : ImageData) (system : System) (flow : Flow) (block
   pub few : block_count flow entries ≤ 4095
 
 pub record IsPlant (plant : PlantData) : Type 0 where
+  pub image : IsLawfulImage plant.image
   pub system : IsLawfulSystem plant.system
   pub timing : IsLawfulTiming plant.timing
-  pub graph : HaveGraph plant.image plant.system plant.timing plant.flow
+  pub graph : IsGraphOf plant.image plant.system plant.timing plant.flow
   pub blocks : HaveBlocks plant.image plant.system plant.flow plant.blocks
 
 -- the plant of these three

@@ -87,6 +87,14 @@ impl Blocks {
         self.blocks.get(block).begin.first
     }
 
+    /// The service node behind which the block begins; none for the block of a context's entry.
+    pub fn behind(&self, block: usize) -> Option<usize>
+        requires { block < length self.now.blocks }
+        ensures { IsSomeAnd (slice_get self.now.blocks block) (λ b. b.begin.after ≡ result) }
+    {
+        self.blocks.get(block).begin.after
+    }
+
     /// The block of the context's entry.
     pub fn entry(&self, context: usize) -> usize
         requires { context < length self.now.entries }

@@ -2,41 +2,12 @@
 
 ghost use Rattle.std.specs.Prelude.{◌≡◌, ◌<◌, false, nat_eq, length, All, IfOk};
 ghost use Rattle.std.specs.Option.{option_map_or};
-ghost use Rattle.oil_model.specs.System.{IsLawful};
-ghost use Rattle.osek_kernel.specs.Contexts.{context_at, context_count, entry_of};
 ghost use Rattle.flow_graph.specs.Faults.{is_entry_of};
-ghost use Rattle.flow_graph.specs.Graph as graphs;
 ghost use Rattle.wcet_atomic_blocks.specs.Working.Rooted.{AreEntriesAmong};
 
-use elf_image::Image;
 use flow_graph::{Flow, Node};
-use listed::{ListedNumbers, Memory};
-use oil_model::System;
-use osek_kernel::Context;
+use listed::Memory;
 use std::alloc::Global;
-
-/// The address at which each context begins; none where it has no symbol.
-pub(crate) fn addresses_of(
-    alloc: Global,
-    image: &Image,
-    system: &System,
-) -> Result<ListedNumbers<Option<u32>>, Memory>
-    requires { IsLawful system.now }
-    ensures { IfOk result (λ addresses. addresses ≡ graphs.entries_of image.now system.now) }
-{
-    let mut addresses = ListedNumbers::new(alloc);
-    for place in 0..system.tasks.len() + system.isrs.len() {
-        addresses.push(address_at(image, system, place))?;
-    }
-    Ok(addresses)
-}
-
-fn address_at(image: &Image, system: &System, place: usize) -> Option<u32>
-    requires { place < context_count system.now }
-    ensures { result ≡ entry_of image.now system.now (context_at system.now place) }
-{
-    Context::at(system, place).entry(image, system)
-}
 
 /// For each context the number of its entry's node, in one walk over the nodes.
 pub(crate) fn entry_numbers(

@@ -1,7 +1,9 @@
 //! From a code graph, its blocks and the declared loops to the loop instances.
 
-ghost use Rattle.std.specs.Prelude.{◌≡◌, ◌<◌, ◌++◌, length, filter, OnOk, IfOk, IfSome, slice_get, Some};
-ghost use Rattle.std.specs.List.{range_with_len, flat_map};
+ghost use Rattle.std.specs.Prelude.{◌≡◌, ◌<◌, ◌++◌, true, length, filter, OnOk, IfOk, IfSome, slice_get, Some};
+ghost use Rattle.std.specs.List.{range_with_len};
+ghost use Rattle.std.specs.List.Sorted.{IsStrictlySortedBy};
+ghost use Rattle.flow_graph.specs.Graph.{node_cmp};
 ghost use Rattle.wcet_atomic_blocks.specs.Loops as words;
 ghost use Rattle.wcet_atomic_blocks.specs.Working.Wanted.{edge_test};
 
@@ -21,7 +23,8 @@ pub fn loop_instances(
     blocks: &Blocks,
     timing: &Timing,
 ) -> Result<LoopInstances, Memory>
-    requires { length flow.now.leaving ≡ length flow.now.nodes }
+    requires leaving { length flow.now.leaving ≡ length flow.now.nodes }
+    requires order { IsStrictlySortedBy node_cmp flow.now.nodes }
     ensures { IfOk result (λ found. found
         ≡ words.loop_instances flow.now blocks.now.blocks timing.now.loops) }
 {
@@ -51,23 +54,27 @@ fn push_from(
 ) -> Result<(), Memory>
     requires exists { number < length flow.now.nodes }
     requires leaving { length flow.now.leaving ≡ length flow.now.nodes }
+    requires order { IsStrictlySortedBy node_cmp flow.now.nodes }
     ensures { OnOk result (found.new
         ≡ found.old ++ words.instances_from flow.now blocks.now loops.now number) }
 {
-    if is_head(flow, number) {
-        push_instances(alloc, flow, blocks, loops, number, found)?;
+    let node = flow.nodes.get(number);
+    if is_first(flow, number, node) {
+        push_instances(alloc, flow, blocks, loops, number, node, found)?;
     }
     Ok(())
 }
 
-/// Whether the node is the first one of its string.
-fn is_head(flow: &Flow, number: usize) -> bool
-    requires { number < length flow.now.nodes }
-    ensures { IfSome (slice_get flow.now.nodes number) (λ node. result
-        ≡ words.is_head flow.now number node) }
+/// Whether the node is the first one of its string: the nodes of a string stand together.
+fn is_first(flow: &Flow, number: usize, node: &Node) -> bool
+    requires stands { slice_get flow.now.nodes number ≡ Some node.now }
+    requires order { IsStrictlySortedBy node_cmp flow.now.nodes }
+    ensures { result ≡ words.is_first flow.now number node.now }
 {
-    let node = flow.nodes.get(number);
-    !(0 < number && same_string(node, flow.nodes.get(number - 1)))
+    match number.checked_sub(1) {
+        Some(before) => !same_string(node, flow.nodes.get(before)),
+        None => true,
+    }
 }
 
 /// Adds the instances of the string whose first node that is.
@@ -77,14 +84,16 @@ fn push_instances(
     blocks: &[Block],
     loops: &[Loop],
     number: usize,
+    head: &Node,
     found: &mut LoopInstances,
 ) -> Result<(), Memory>
-    requires exists { number < length flow.now.nodes }
+    requires stands { slice_get flow.now.nodes number ≡ Some head.now }
+    requires first { words.is_first flow.now number head.now ≡ true }
     requires leaving { length flow.now.leaving ≡ length flow.now.nodes }
-    ensures { OnOk result (IfSome (slice_get flow.now.nodes number) (λ node. found.new
-        ≡ found.old ++ words.instances_at flow.now blocks.now loops.now number node)) }
+    requires order { IsStrictlySortedBy node_cmp flow.now.nodes }
+    ensures { OnOk result (found.new
+        ≡ found.old ++ words.instances_at flow.now blocks.now loops.now head.now) }
 {
-    let head = flow.nodes.get(number);
     for declared in 0..loops.len() {
         let range = &loops[declared];
         if let Some(instance) = instance_at(alloc, flow, blocks, head, number, declared, range)? {
@@ -104,9 +113,12 @@ fn instance_at(
     declared: usize,
     range: &Loop,
 ) -> Result<Option<LoopInstance>, Memory>
-    requires { length flow.now.leaving ≡ length flow.now.nodes }
+    requires stands { slice_get flow.now.nodes number ≡ Some head.now }
+    requires first { words.is_first flow.now number head.now ≡ true }
+    requires leaving { length flow.now.leaving ≡ length flow.now.nodes }
+    requires order { IsStrictlySortedBy node_cmp flow.now.nodes }
     ensures { IfOk result (λ instance. instance
-        ≡ words.instance_at flow.now blocks.now head.now number declared range.now) }
+        ≡ words.instance_at flow.now blocks.now head.now declared range.now) }
 {
     let backs = backs_of(alloc, flow, head, number, range)?;
     if backs.len() > 0 {
@@ -126,7 +138,8 @@ fn instance_at(
     }
 }
 
-/// The back edges of the string's nodes.
+/// The back edges, which leave nodes of the string alone: those from its first node on, up to the next
+/// string's.
 fn backs_of(
     alloc: Global,
     flow: &Flow,
@@ -134,8 +147,12 @@ fn backs_of(
     number: usize,
     range: &Loop,
 ) -> Result<EdgeIds, Memory>
-    requires { length flow.now.leaving ≡ length flow.now.nodes }
-    ensures { IfOk result (λ ids. ids ≡ words.backs_of flow.now head.now number range.now) }
+    requires stands { slice_get flow.now.nodes number ≡ Some head.now }
+    requires first { words.is_first flow.now number head.now ≡ true }
+    requires leaving { length flow.now.leaving ≡ length flow.now.nodes }
+    requires order { IsStrictlySortedBy node_cmp flow.now.nodes }
+    ensures { IfOk result (λ ids. ids
+        ≡ words.passing_edges flow.now (words.is_back head.now range.now)) }
 {
     let mut ids = EdgeIds::new(alloc);
     for place in number..flow.nodes() {
@@ -150,7 +167,8 @@ fn backs_of(
 /// The edges that enter.
 fn entering_of(alloc: Global, flow: &Flow, head: &Node, range: &Loop) -> Result<EdgeIds, Memory>
     requires { length flow.now.leaving ≡ length flow.now.nodes }
-    ensures { IfOk result (λ ids. ids ≡ words.entering_of flow.now head.now range.now) }
+    ensures { IfOk result (λ ids. ids
+        ≡ words.passing_edges flow.now (words.is_entering head.now range.now)) }
 {
     let mut ids = EdgeIds::new(alloc);
     for place in 0..flow.nodes() {
@@ -281,8 +299,7 @@ fn begins_outside(flow: &Flow, range: &Loop, after: Option<usize>) -> bool
 /// The nodes that lie within.
 fn within_of(alloc: Global, flow: &Flow, head: &Node, range: &Loop) -> Result<Ids, Memory>
     ensures { IfOk result (λ ids. ids
-        ≡ filter (words.node_passes flow.now (words.lies_within head.now range.now))
-        (range_with_len 0 (length flow.now.nodes))) }
+        ≡ words.passing_nodes flow.now (words.lies_within head.now range.now)) }
 {
     let mut ids = Ids::new(alloc);
     for number in 0..flow.nodes() {

@@ -2,18 +2,18 @@
 
 ghost use Rattle.oil_model.specs.System.{IsLawful as IsLawfulSystem};
 ghost use Rattle.timing_file.specs.Lawful.{IsLawful as IsLawfulTiming};
-ghost use Rattle.flow_graph.specs.Graph.{entries_of};
+ghost use Rattle.flow_graph.specs.Graph as graphs;
 ghost use Rattle.wcet_atomic_blocks.specs.Planting.{AnswersBlocks, AnswersFlow, IsAnswer};
-ghost use Rattle.wcet_atomic_blocks.specs.Plants.{HaveGraph};
+ghost use Rattle.wcet_atomic_blocks.specs.Plants.{IsGraphOf};
 ghost use Rattle.wcet_atomic_blocks.specs.Working.Rooted.{IsRooted};
 
 use crate::block::Blocks;
 use crate::cutting::cut;
-use crate::entries::{addresses_of, entry_numbers};
+use crate::entries::entry_numbers;
 use crate::fault::{BlockFault, PlantFault};
 use crate::plants::Plant;
 use elf_image::Image;
-use flow_graph::{CodeFault, Flow, build};
+use flow_graph::{CodeFault, Flow, build, entries_of};
 use oil_model::System;
 use std::alloc::Global;
 use timing_file::Timing;
@@ -47,9 +47,10 @@ pub fn planted(
 ) -> Result<Plant, PlantFault>
     requires system { IsLawfulSystem system }
     requires timing { IsLawfulTiming timing }
-    requires graph { HaveGraph image system timing flow }
+    requires graph { IsGraphOf image system timing flow }
     ensures { AnswersFlow image system timing flow result }
 {
+    image.is_lawful();
     match blocks_of(alloc, &image, &system, &flow) {
         Ok(blocks) => Ok(Plant {
             image,
@@ -69,11 +70,10 @@ fn blocks_of(
     system: &System,
     flow: &Flow,
 ) -> Result<Blocks, PlantFault>
-    requires system { IsLawfulSystem system.now }
-    requires rooted { IsRooted (entries_of image.now system.now) flow.now }
+    requires { IsRooted (graphs.entries_of image.now system.now) flow.now }
     ensures { AnswersBlocks image.now system.now flow.now result }
 {
-    let addresses = addresses_of(alloc, image, system)?;
+    let addresses = entries_of(alloc, image, system)?;
     let entries = entry_numbers(alloc, flow, addresses.as_slice())?;
     match cut(alloc, flow, entries.as_slice()) {
         Ok(blocks) => Ok(blocks),

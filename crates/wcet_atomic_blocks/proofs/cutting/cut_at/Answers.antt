@@ -6,7 +6,8 @@ use Rattle.wcet_atomic_blocks.proofs.cutting.cut_at.Goals as goal
 
 pub blocks_at-requires-clause-exist : goal.blocks_at-requires-clause-exist
 blocks_at-requires-clause-exist c =
-    subst (λ (bs : List Beginning). All (λ b. b.first < length c.args.flow.now.nodes) bs) (sym c.requires.begins) (firsts_exist c.args.flow.now c.args.entries.now c.requires.whole)
+    subst (λ (bs : List Beginning). All (λ b. b.first < length c.args.flow.now.nodes) bs) (sym c.requires.begins)
+    (firsts_exist c.args.flow.now c.args.entries.now c.requires.whole)
 
 pub entry_table-requires : goal.entry_table-requires
 entry_table-requires c =
@@ -14,7 +15,8 @@ entry_table-requires c =
 
 pub after_table-requires : goal.after_table-requires
 after_table-requires c =
-    rw c.nodes.ensures (subst (λ (bs : List Beginning). All (λ b. IfSome b.after (λ node. node < length c.args.flow.now.nodes)) bs) (sym c.requires.begins) (afters_exist c.args.flow.now c.args.entries.now))
+    rw c.nodes.ensures (subst (λ (bs : List Beginning). All (λ b. IfSome b.after (λ node. node < length c.args.flow.now.nodes)) bs) (sym c.requires.begins)
+    (afters_exist c.args.flow.now c.args.entries.now))
 
 pub returns : goal.returns
 returns c =
@@ -26,5 +28,6 @@ returns c =
       entry_count = tables.long;
       entry = entries_named flow entries c.in_ok-blocks.blocks c.args.begins.now c.in_ok-entries.entries c.in_ok-blocks.ensures.begins c.requires.begins tables;
       after_count = afters.long ∙ c.nodes.ensures;
-      after = afters_named flow entries c.in_ok-blocks.blocks c.args.begins.now c.in_ok-afters.afters c.requires.whole c.in_ok-blocks.ensures.begins c.requires.begins (rw (sym c.nodes.ensures) afters);
+      after = afters_named flow entries c.in_ok-blocks.blocks c.args.begins.now c.in_ok-afters.afters c.requires.whole c.in_ok-blocks.ensures.begins
+          c.requires.begins (rw (sym c.nodes.ensures) afters);
     }

@@ -1,21 +1,34 @@
-use Rattle.std.proofs.Common.{◌≡◌, ◌+◌, ◌-◌, ◌<◌, List, ◌++◌, length, true, ap, ◌∙◌, sym, append_assoc, rules}
+use Rattle.std.proofs.Common.{◌≡◌, ◌<◌, ◌≤◌, ◌++◌, false, length, arith, rules, ap, ◌∙◌, sym}
 use Rattle.std.specs.Prelude.{filter}
-use Rattle.std.specs.List.{flat_map}
-use Rattle.std.proofs.lemmas.List.Elements.{filter-append}
-use Rattle.wcet_atomic_blocks.specs.declared.loops.EdgeId.{EdgeId}
-use Rattle.wcet_atomic_blocks.specs.Loops.{node_passes, same_string, id_passes, is_back, edges_from, run_from}
-use Rattle.wcet_atomic_blocks.proofs.LoopLists.{run_goes_on}
+use Rattle.std.specs.List.{range_with_len, flat_map}
+use Rattle.std.proofs.lemmas.Option.{slice_get_within}
+use Rattle.wcet_atomic_blocks.specs.Loops.{node_passes, same_string, id_passes, is_back, edges_from}
+use Rattle.wcet_atomic_blocks.proofs.LoopLists.{filter_flat_counts}
+use Rattle.wcet_atomic_blocks.proofs.StringNodes.{no_backs_before, no_backs_behind}
 use Rattle.wcet_atomic_blocks.proofs.instances.backs_of.Goals as goal
+
+pub loop-place-init : goal.loop-place-init
+loop-place-init c = c.new-ids.ensures ∙ sym (no_backs_before c.args.flow.now c.args.head.now c.args.range.now c.args.number c.requires.first)
 
 pub loop-place-preserved : goal.loop-place-preserved
 loop-place-preserved c =
+    let flow = c.args.flow.now in let place = c.loop-place.place in
+    let backs = id_passes flow (is_back c.args.head.now c.args.range.now) in
+    c.in_ok-push_edges.ensures ∙ ap (λ ids. ids ++ filter backs (edges_from flow place)) c.loop-place.invariant
+    ∙ sym (filter_flat_counts backs (edges_from flow) place)
+
+pub returns-then-not-same_string : goal.returns-then-not-same_string
+returns-then-not-same_string c =
     let flow = c.args.flow.now in let head = c.args.head.now in let place = c.loop-place.place in
-    let inside : place < length flow.nodes = search rules in
-    let same : node_passes flow (same_string head) place ≡ true = search rules in
-    let goes = run_goes_on flow head place (length flow.nodes) inside same in
-    let rest : List EdgeId = flat_map (edges_from flow) (run_from flow head (place + 1) (length flow.nodes - (place + 1))) in
-    ap (λ ids. ids ++ filter (id_passes flow (is_back head c.args.range.now)) rest) c.in_ok-push_edges.ensures
-    ∙ append_assoc c.loop-place.ids (filter (id_passes flow (is_back head c.args.range.now)) (edges_from flow place)) (filter (id_passes flow (is_back head c.args.range.now)) rest)
-    ∙ ap (λ ids. c.loop-place.ids ++ ids) (sym (filter-append (id_passes flow (is_back head c.args.range.now)) (edges_from flow place) rest))
-    ∙ ap (λ run. c.loop-place.ids ++ filter (id_passes flow (is_back head c.args.range.now)) (flat_map (edges_from flow) run)) (sym goes)
-    ∙ c.loop-place.invariant
+    let from : c.args.number ≤ place = search rules in
+    let within : place < length flow.nodes = search rules in
+    let other : node_passes flow (same_string head) place ≡ false = search rules in
+    c.loop-place.invariant ∙ sym (no_backs_behind flow head c.args.range.now c.args.number place c.requires.order c.requires.stands from within other)
+
+pub returns : goal.returns
+returns c =
+    let flow = c.args.flow.now in
+    let exists = slice_get_within flow.nodes c.args.number c.args.head.now c.requires.stands in
+    let all : c.loop-place.place ≡ length flow.nodes = omega (arith, exists) in
+    c.loop-place.invariant
+    ∙ ap (λ n. filter (id_passes flow (is_back c.args.head.now c.args.range.now)) (flat_map (edges_from flow) (range_with_len 0 n))) all

@@ -7,5 +7,6 @@ use Rattle.wcet_atomic_blocks.proofs.instances.push_edges.Goals as goal
 
 pub loop-i-preserved : goal.loop-i-preserved
 loop-i-preserved c =
-    kept_more (id_passes c.args.flow.now (edge_test c.args.wanted c.args.head.now c.args.range.now)) (edge_id c.args.number) c.loop-i.i c.args.ids.now c.loop-i.ids _
+    kept_more (id_passes c.args.flow.now (edge_test c.args.wanted c.args.head.now c.args.range.now)) (edge_id c.args.number) c.loop-i.i c.args.ids.now
+    c.loop-i.ids _
     c.id_passes.result (search rules) c.loop-i.invariant (grind (arith, common_steps))

@@ -13,10 +13,11 @@ pub loop-declared-preserved : goal.loop-declared-preserved
 loop-declared-preserved c =
     let loops = c.args.loops.now in let declared = c.loop-declared.declared in let found = c.loop-declared.found in
     let none : Loop = record { from = 0; to = 0; bound = 0 } in
-    let at : ℕ → Loop → Option LoopInstance = instance_at c.args.flow.now c.args.blocks.now c.get-head.result.now c.args.number in
+    let at : ℕ → Loop → Option LoopInstance = instance_at c.args.flow.now c.args.blocks.now c.args.head.now in
     let gives : option_and_then (at declared) (slice_get loops declared) ≡ c.in_ok-instance.field-0 =
     ap (option_and_then (at declared)) (slice_get-get_or loops declared none c.loop-declared-test.true) ∙ sym c.in_ok-instance.ensures in
-    gives_more (λ d. option_and_then (at d) (slice_get loops d)) declared c.args.found.now found c.match-branch-2.found c.in_ok-instance.field-0 gives c.loop-declared.invariant
+    gives_more (λ d. option_and_then (at d) (slice_get loops d)) declared c.args.found.now found c.match-branch-2.found c.in_ok-instance.field-0 gives
+    c.loop-declared.invariant
     (elim c.match-branch-2.branch [
       | in-Some+in_ok-push w ↦ w.found-is ∙ w.in_ok-push.ensures.ok ∙ ap (λ o. found ++ option_to_list o) (sym w.in-Some.is)
       | in_default w ↦ w.found-is ∙ sym (append-nil found) ∙ ap (λ o. found ++ option_to_list o) (sym w.in_default.is)

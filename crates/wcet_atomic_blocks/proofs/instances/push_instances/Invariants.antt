@@ -6,4 +6,5 @@ use Rattle.wcet_atomic_blocks.proofs.instances.push_instances.Given as goal
 
 abbrev pub invariant-loop-declared : goal.invariant-loop-declared
 invariant-loop-declared l =
-    l.found ≡ l.fn.found ++ filter_map (λ declared. option_and_then (instance_at l.flow l.blocks l.head l.number declared) (slice_get l.loops declared)) (range_with_len 0 l.declared)
+    l.found ≡ l.fn.found ++ filter_map (λ declared. option_and_then (instance_at l.flow l.blocks l.head declared) (slice_get l.loops declared))
+    (range_with_len 0 l.declared)

@@ -5,4 +5,5 @@ use Rattle.wcet_atomic_blocks.proofs.BeginLists.{filter_counts}
 use Rattle.wcet_atomic_blocks.proofs.instances.within_of.Goals as goal
 
 pub loop-number-preserved : goal.loop-number-preserved
-loop-number-preserved c = rw (filter_counts (node_passes c.args.flow.now (lies_within c.args.head.now c.args.range.now)) c.loop-number.number) (grind (arith, common_steps))
+loop-number-preserved c = rw (filter_counts (node_passes c.args.flow.now (lies_within c.args.head.now c.args.range.now)) c.loop-number.number)
+    (grind (arith, common_steps))

@@ -18,4 +18,5 @@ follow-requires c = λ k next leads.
 pub returns-clause-search : goal.returns-clause-search
 returns-clause-search c = on_ok c.follow.result c.follow.ensures.visiting (λ visiting.
     look_follows c.args.flow.now c.args.node c.get-leaving.result.now _ _ _ _ c.get-leaving.ensures (sym c.is_some.ensures ∙ c.if-is_some.false)
-    (subst (λ (es : List (Edge ℕ)). IsVisiting es (length es) c.args.set.now c.args.pending.now.items c.follow.new.set c.follow.new.pending.items) c.as_slice.ensures visiting))
+    (subst (λ (es : List (Edge ℕ)). IsVisiting es (length es) c.args.set.now c.args.pending.now.items c.follow.new.set c.follow.new.pending.items)
+    c.as_slice.ensures visiting))

@@ -12,7 +12,8 @@ loop-node-init c =
     record {
       room = omega (arith, room, same, count);
       search = search_begins c.args.flow.now c.args.first c.in_ok-set.set _ _ c.in_ok-set.ensures.empty
-          (subst (λ (p : List ℕ). Visits c.args.first c.in_ok-set.set p c.visit.new.set c.visit.new.pending.items) c.new-pending.ensures.items c.in_ok-visit.ensures.visits);
+          (subst (λ (p : List ℕ). Visits c.args.first c.in_ok-set.set p c.visit.new.set c.visit.new.pending.items) c.new-pending.ensures.items
+          c.in_ok-visit.ensures.visits);
       inside = members_exist c.args.flow.now c.args.first (length c.args.flow.now.nodes) c.requires.edges c.requires.exists;
     }
 
@@ -28,7 +29,8 @@ loop-node-preserved c =
     record {
       room = omega (arith, same, was);
       search = c.in_ok-look.ensures.search c.args.first
-          (search_pops c.args.flow.now c.args.first c.in-Some.node c.loop-node.set c.loop-node.pending.items c.pop.new.self.items c.in-Some.ensures.items c.loop-node.invariant.search);
+          (search_pops c.args.flow.now c.args.first c.in-Some.node c.loop-node.set c.loop-node.pending.items c.pop.new.self.items c.in-Some.ensures.items
+          c.loop-node.invariant.search);
       inside = c.loop-node.invariant.inside;
     }
 

@@ -6,5 +6,7 @@ use Rattle.wcet_atomic_blocks.proofs.plants.Plant.loop_instances.Goals as goal
 
 pub loop_instances-requires : goal.loop_instances-requires
 loop_instances-requires c =
-    let plant = c.self.inside in
-    sym (zip_length (IsLeaving (program_of plant.image plant.system plant.timing) plant.flow.nodes) plant.flow.nodes plant.flow.leaving c.self.invariant.graph.graph.leaving)
+    let plant = c.self.inside in let graph = c.self.invariant.graph.graph in
+    let leaving = zip_length (IsLeaving (program_of plant.image plant.system plant.timing) plant.flow.nodes) plant.flow.nodes plant.flow.leaving graph.leaving
+    in
+    record { leaving = sym leaving; order = graph.nodes.are.order }
