@@ -1,0 +1,4 @@
+pub mod Composed
+pub mod Moves
+pub mod Closed
+pub mod Working

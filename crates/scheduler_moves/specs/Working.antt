@@ -1,0 +1,4 @@
+pub mod Called
+pub mod Listing
+pub mod Opened
+pub mod Ranks
