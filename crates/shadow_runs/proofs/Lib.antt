@@ -1,0 +1,14 @@
+pub mod Members
+pub mod Finding
+pub mod Together
+pub mod Entered
+pub mod Planted
+pub mod Numbers
+pub mod Live
+pub mod Begun
+pub mod Along
+pub mod Behind
+pub mod Inside
+pub mod Moving
+pub mod Stepping
+pub mod Covering

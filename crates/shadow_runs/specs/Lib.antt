@@ -1,0 +1,3 @@
+pub mod Shadow
+pub mod Covering
+pub mod Cases
