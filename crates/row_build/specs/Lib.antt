@@ -1,0 +1,4 @@
+pub mod Columns
+pub mod Families
+pub mod Rows
+pub mod Working
