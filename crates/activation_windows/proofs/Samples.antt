@@ -1,0 +1,13 @@
+pub mod Planting
+pub mod Testing
+pub mod Preempted
+pub mod Interrupted
+pub mod Scheduled
+pub mod Called
+pub mod Once
+pub mod TwoModes
+pub mod Locked
+pub mod PreemptedPlant
+pub mod InterruptedPlant
+pub mod ScheduledPlant
+pub mod PreemptedRun

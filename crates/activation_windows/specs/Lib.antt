@@ -1,0 +1,6 @@
+pub mod Windows
+pub mod Counted
+pub mod Cases
+pub mod ShadowCases
+pub mod Bounds
+pub mod Samples
