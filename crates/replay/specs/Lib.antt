@@ -1,5 +1,9 @@
+pub mod Kinds
 pub mod Form
 pub mod Schedule
 pub mod Lawful
 pub mod Playing
 pub mod Play
+pub mod Tells
+pub mod Working
+pub mod Turning

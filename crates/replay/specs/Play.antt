@@ -1,6 +1,6 @@
 -- What playing a schedule answers: the responses of its run, or the first step that breaks what is declared or that
 -- misuses a service.
-use Rattle.std.specs.Prelude.{◌≡◌, ℕ, true, List, ◌∷◌, map, Option, Some, None, Result, Ok, Err}
+use Rattle.std.specs.Prelude.{◌≡◌, ℕ, true, List, ◌∷◌, map, Result, Ok, Err}
 use Rattle.listed.specs.declared.fault.Fault.{Fault}
 use Rattle.listed.specs.declared.fault.Fault.TheVariants.{Kind, Memory}
 use Rattle.oil_model.specs.declared.system.System.{System}

@@ -1,7 +1,7 @@
 -- The run that a schedule plays: at each turn one step is made, the same in every state. Registers are those with
 -- which the program starts its contexts, a device gives zeros, each step takes the most cycles that are declared for
 -- it, and a pending source is taken at once, the least first.
-use Rattle.std.specs.Prelude.{◌≡◌, ℕ, ◌+◌, ◌-◌, Bool, ◌&&◌, nat_lt, nat_le, List, [], ◌∷◌, is_some, position, slice_get, Option, Some, None, IfSome, if◌then◌else◌}
+use Rattle.std.specs.Prelude.{◌≡◌, ℕ, ◌+◌, ◌-◌, Bool, nat_lt, nat_le, List, [], ◌∷◌, is_some, position, slice_get, Option, Some, None, IfSome, if◌then◌else◌}
 use Rattle.oil_model.specs.declared.system.System.{System}
 use Rattle.elf_image.specs.Image.{ImageData}
 use Rattle.timing_file.specs.declared.timing.Timing.{Timing}
@@ -12,7 +12,7 @@ use Rattle.osek_kernel.specs.Kernel.{interrupts_open}
 use Rattle.osek_kernel.specs.Running.{runs}
 use Rattle.osek_kernel.specs.Sources.{source_at, number_of}
 use Rattle.osek_machine.specs.State.{MachineState}
-use Rattle.osek_machine.specs.Events.{Execution, ServiceCall, Event, Arrive, Take, Execute, Serve, Idle}
+use Rattle.osek_machine.specs.Events.{Execution, Event, Arrive, Take, Execute, Serve, Idle}
 use Rattle.osek_machine.specs.Steps.{Step}
 use Rattle.osek_machine.specs.Declarations.{takes_branch, take_cost}
 use Rattle.osek_machine.specs.Machine.{Begins, taking_of, call_of}
