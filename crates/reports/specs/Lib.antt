@@ -3,3 +3,4 @@ pub mod Verdicts
 pub mod Solved
 pub mod Oil
 pub mod Code
+pub mod Played

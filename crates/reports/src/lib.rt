@@ -7,12 +7,14 @@
 
 mod code;
 mod oil;
+mod played;
 mod refusals;
 mod solved;
 mod verdicts;
 
 pub use code::{blocks_refusal, code_refusal, elf_refusal, push_context_line, timing_refusal};
 pub use oil::{model_refusal, oil_refusal};
+pub use played::{declaration_refusal, misuse_refusal, push_response_line, schedule_refusal};
 pub use refusals::{input_refusal, unaligned_refusal, words_refusal};
 pub use solved::{
     bound_text, entries_refusal, multiplier_refusal, pivots_refusal, unbounded_refusal,

@@ -21,6 +21,8 @@ use Rattle.syswcet.specs.BoundLone.{AnswersClosed, StatesAnswer}
 use Rattle.syswcet.specs.ShowOil.{HasLayout}
 use Rattle.syswcet.specs.Plants.{timing_limit, HasImage, HasTiming, HasPlant, OilSystem, ElfImage, TimingFile, PlantWithTiming, PlantWithImage, PlantOf}
 use Rattle.syswcet.specs.ShowCode.{code_text}
+use Rattle.syswcet.specs.Replay.{schedule_limit, HasSchedule, HasPlayed, ScheduleFile, ReplayOn}
+use Rattle.replay.specs.declared.schedule.Schedule.{Schedule}
 use Rattle.syswcet.specs.Commands.{files_of, StepsOf}
 
 first : (x : List ℕ) (xs : List (List ℕ)) → Contains (x ∷ xs) x
@@ -29,33 +31,36 @@ first x xs = (0, omega arith, refl)
 third : (x y z : List ℕ) (xs : List (List ℕ)) → Contains (x ∷ y ∷ z ∷ xs) z
 third x y z xs = (2, omega arith, refl)
 
+fourth : (x y z u : List ℕ) (xs : List (List ℕ)) → Contains (x ∷ y ∷ z ∷ u ∷ xs) u
+fourth x y z u xs = (3, omega arith, refl)
+
 second : (x y : List ℕ) (xs : List (List ℕ)) → Contains (x ∷ y ∷ xs) y
 second x y xs = (1, omega arith, refl)
 
--- a system and an image, among three files
-pub system_honest : {F : Type 0} (outside : F → FilesOutside) (reads : Calls F) (oil elf timing : List ℕ)
-    → IsHonest outside (oil ∷ elf ∷ timing ∷ []) (OilSystem (IsCall outside reads) oil)
-system_honest outside reads oil elf timing =
-    let names : List (List ℕ) = oil ∷ elf ∷ timing ∷ [] in
+-- a system and an image, among these files and others
+pub system_honest : {F : Type 0} (outside : F → FilesOutside) (reads : Calls F) (oil elf timing : List ℕ) (others : List (List ℕ))
+    → IsHonest outside (oil ∷ elf ∷ timing ∷ others) (OilSystem (IsCall outside reads) oil)
+system_honest outside reads oil elf timing others =
+    let names : List (List ℕ) = oil ∷ elf ∷ timing ∷ others in
     joined outside names (OilTree (IsCall outside reads) oil) (λ tree. Judged (HasSystem tree))
-    (file outside reads names oil oil_limit HasTree (first oil (elf ∷ timing ∷ []))) (λ (tree : Tree). judged outside names (HasSystem tree))
+    (file outside reads names oil oil_limit HasTree (first oil (elf ∷ timing ∷ others))) (λ (tree : Tree). judged outside names (HasSystem tree))
 
-pub image_honest : {F : Type 0} (outside : F → FilesOutside) (reads : Calls F) (oil elf timing : List ℕ)
-    → IsHonest outside (oil ∷ elf ∷ timing ∷ []) (ElfImage (IsCall outside reads) elf)
-image_honest outside reads oil elf timing = file outside reads (oil ∷ elf ∷ timing ∷ []) elf image_limit HasImage (second oil elf (timing ∷ []))
+pub image_honest : {F : Type 0} (outside : F → FilesOutside) (reads : Calls F) (oil elf timing : List ℕ) (others : List (List ℕ))
+    → IsHonest outside (oil ∷ elf ∷ timing ∷ others) (ElfImage (IsCall outside reads) elf)
+image_honest outside reads oil elf timing others = file outside reads (oil ∷ elf ∷ timing ∷ others) elf image_limit HasImage (second oil elf (timing ∷ others))
 
--- the plant of three files
-plant : {F : Type 0} (outside : F → FilesOutside) (reads : Calls F) (oil elf timing : List ℕ)
-    → IsHonest outside (oil ∷ elf ∷ timing ∷ []) (PlantOf (IsCall outside reads) oil elf timing)
-plant outside reads oil elf timing =
-    let names : List (List ℕ) = oil ∷ elf ∷ timing ∷ [] in
+-- the plant of the first three files
+pub plant_honest : {F : Type 0} (outside : F → FilesOutside) (reads : Calls F) (oil elf timing : List ℕ) (others : List (List ℕ))
+    → IsHonest outside (oil ∷ elf ∷ timing ∷ others) (PlantOf (IsCall outside reads) oil elf timing)
+plant_honest outside reads oil elf timing others =
+    let names : List (List ℕ) = oil ∷ elf ∷ timing ∷ others in
     let calls = IsCall outside reads in
     joined outside names (OilSystem calls oil) (PlantWithImage calls elf timing)
-    (system_honest outside reads oil elf timing)
+    (system_honest outside reads oil elf timing others)
     (λ (system : System). joined outside names (ElfImage calls elf) (PlantWithTiming calls timing system)
-    (image_honest outside reads oil elf timing)
+    (image_honest outside reads oil elf timing others)
     (λ (image : ImageData). joined outside names (TimingFile calls timing) (λ t. Judged (HasPlant image system t))
-    (file outside reads names timing timing_limit HasTiming (third oil elf timing []))
+    (file outside reads names timing timing_limit HasTiming (third oil elf timing others))
     (λ (times : Timing). judged outside names (HasPlant image system times))))
 
 pub honest : {F : Type 0} (outside : F → FilesOutside) (reads : Calls F) (command : Option Command)
@@ -86,4 +91,12 @@ honest outside reads (Some (command.ShowCode oil elf timing)) =
     let names : List (List ℕ) = oil ∷ elf ∷ timing ∷ [] in
     let calls = IsCall outside reads in
     joined outside names (PlantOf calls oil elf timing) (λ plant. Judged (λ given. given ≡ Ok (code_text plant)))
-    (plant outside reads oil elf timing) (λ (plant : PlantData). judged outside names (λ given. given ≡ Ok (code_text plant)))
+    (plant_honest outside reads oil elf timing []) (λ (plant : PlantData). judged outside names (λ given. given ≡ Ok (code_text plant)))
+honest outside reads (Some (command.Replay oil elf timing schedule)) =
+    let names : List (List ℕ) = oil ∷ elf ∷ timing ∷ schedule ∷ [] in
+    let calls = IsCall outside reads in
+    joined outside names (PlantOf calls oil elf timing) (ReplayOn calls schedule)
+    (plant_honest outside reads oil elf timing (schedule ∷ []))
+    (λ (plant : PlantData). joined outside names (ScheduleFile calls schedule plant) (λ listed. Judged (HasPlayed plant listed))
+    (file outside reads names schedule schedule_limit (HasSchedule plant) (fourth oil elf timing schedule []))
+    (λ (listed : Schedule). judged outside names (HasPlayed plant listed)))

@@ -36,9 +36,10 @@ use Rattle.syswcet.specs.BoundLone.{AnswersClosed, StatesAnswer, BoundLone}
 use Rattle.syswcet.specs.ShowOil.{HasLayout, ShowOil}
 use Rattle.syswcet.specs.Plants.{timing_limit, HasImage, HasTiming, HasPlant, OilSystem, ElfImage, TimingFile, PlantWithTiming, PlantWithImage, PlantOf}
 use Rattle.syswcet.specs.ShowCode.{code_text, ShowCode}
+use Rattle.syswcet.specs.Replay.{schedule_limit, HasSchedule, HasPlayed, ScheduleFile, ReplayOn, Replay}
 use Rattle.syswcet.specs.Commands.{StepsOf}
 use Rattle.syswcet.specs.Headline.{AreBytesOf, SaysTruly, Means}
-use Rattle.syswcet.proofs.Commands.{system_honest, image_honest}
+use Rattle.syswcet.proofs.Commands.{system_honest, image_honest, plant_honest}
 
 -- the file that is read first
 first_bytes : {F X : Type 0} (outside : F → FilesOutside) (reads : Calls F) (start : F) (name : List ℕ) (limit : ℕ)
@@ -170,8 +171,8 @@ show_code outside reads start oil elf timing text after steps =
     let was_elf = file_ok calls elf image_limit HasImage one.1 two.0 two.1 two.2 in
     let three = then_ok (TimingFile calls timing) (λ t. Judged (HasPlant two.0 one.0 t)) two.1 whole.0 whole.1 two.3 in
     let was_timing = file_ok calls timing timing_limit HasTiming two.1 three.0 three.1 three.2 in
-    let told_one : (outside one.1).told ≡ (outside start).told = ((system_honest outside reads oil elf timing).leaves start (Ok one.0) one.1 one.2).goes_on.kept in
-    let told_two : (outside two.1).told ≡ (outside start).told = ((image_honest outside reads oil elf timing).leaves one.1 (Ok two.0) two.1 two.2).goes_on.kept ∙ told_one in (
+    let told_one : (outside one.1).told ≡ (outside start).told = ((system_honest outside reads oil elf timing []).leaves start (Ok one.0) one.1 one.2).goes_on.kept in
+    let told_two : (outside two.1).told ≡ (outside start).told = ((image_honest outside reads oil elf timing []).leaves one.1 (Ok two.0) two.1 two.2).goes_on.kept ∙ told_one in (
       was_oil.bytes,
       first_bytes outside reads start oil oil_limit HasTree tree.0 was_oil,
       (
@@ -197,6 +198,58 @@ show_code outside reads start oil elf timing text after steps =
       ),
     )
 
+-- ---- replay
+
+replay : {F : Type 0} (outside : F → FilesOutside) (reads : Calls F) (start : F) (oil elf timing schedule text : List ℕ) (after : F)
+    → Replay (IsCall outside reads) oil elf timing schedule start (Ok text) after
+    → SaysTruly (AreBytesOf outside reads start) (Some (command.Replay oil elf timing schedule)) text
+replay outside reads start oil elf timing schedule text after steps =
+    let calls = IsCall outside reads in
+    let others : List (List ℕ) = schedule ∷ [] in
+    let whole = then_ok (PlantOf calls oil elf timing) (ReplayOn calls schedule) start text after steps in
+    let one = then_ok (OilSystem calls oil) (PlantWithImage calls elf timing) start whole.0 whole.1 whole.2 in
+    let tree = then_ok (OilTree calls oil) (λ tree. Judged (HasSystem tree)) start one.0 one.1 one.2 in
+    let was_oil = file_ok calls oil oil_limit HasTree start tree.0 tree.1 tree.2 in
+    let two = then_ok (ElfImage calls elf) (PlantWithTiming calls timing one.0) one.1 whole.0 whole.1 one.3 in
+    let was_elf = file_ok calls elf image_limit HasImage one.1 two.0 two.1 two.2 in
+    let three = then_ok (TimingFile calls timing) (λ t. Judged (HasPlant two.0 one.0 t)) two.1 whole.0 whole.1 two.3 in
+    let was_timing = file_ok calls timing timing_limit HasTiming two.1 three.0 three.1 three.2 in
+    let four = then_ok (ScheduleFile calls schedule whole.0) (λ listed. Judged (HasPlayed whole.0 listed)) whole.1 text after whole.3 in
+    let was_schedule = file_ok calls schedule schedule_limit (HasSchedule whole.0) whole.1 four.0 four.1 four.2 in
+    let told_one : (outside one.1).told ≡ (outside start).told = ((system_honest outside reads oil elf timing others).leaves start (Ok one.0) one.1 one.2).goes_on.kept in
+    let told_two : (outside two.1).told ≡ (outside start).told = ((image_honest outside reads oil elf timing others).leaves one.1 (Ok two.0) two.1 two.2).goes_on.kept ∙ told_one in
+    let told_three : (outside whole.1).told ≡ (outside start).told = ((plant_honest outside reads oil elf timing others).leaves start (Ok whole.0) whole.1 whole.2).goes_on.kept in (
+      was_oil.bytes,
+      first_bytes outside reads start oil oil_limit HasTree tree.0 was_oil,
+      (
+        was_elf.bytes,
+        later_bytes outside reads start one.1 elf image_limit HasImage two.0 told_one was_elf,
+        (
+          was_timing.bytes,
+          later_bytes outside reads start two.1 timing timing_limit HasTiming three.0 told_two was_timing,
+          (
+            was_schedule.bytes,
+            later_bytes outside reads start whole.1 schedule schedule_limit (HasSchedule whole.0) four.0 told_three was_schedule,
+            record {
+              tree = tree.0;
+              is_text = was_oil.fact;
+              system = one.0;
+              system_is = tree.3.1;
+              image = two.0;
+              image_is = was_elf.fact;
+              times = three.0;
+              times_are = was_timing.fact;
+              plant = whole.0;
+              plant_is = three.3.1;
+              listed = four.0;
+              listed_is = was_schedule.fact;
+              says = four.3.1;
+            },
+          ),
+        ),
+      ),
+    )
+
 -- ---- all commands
 
 truly : {F : Type 0} (outside : F → FilesOutside) (reads : Calls F) (start : F) (command : Option Command) (text : List ℕ) (after : F)
@@ -208,6 +261,8 @@ truly outside reads start
     (Some (command.BoundLone image states pivots)) text after steps = bound_lone outside reads start image states pivots text after steps
 truly outside reads start (Some (command.ShowOil oil)) text after steps = show_oil outside reads start oil text after steps
 truly outside reads start (Some (command.ShowCode oil elf timing)) text after steps = show_code outside reads start oil elf timing text after steps
+truly outside reads start
+    (Some (command.Replay oil elf timing schedule)) text after steps = replay outside reads start oil elf timing schedule text after steps
 
 stepped : {F : Type 0} (calls : Calls F) (command : Option Command) (start : F) (answered : Result (List ℕ) Halt) (text : List ℕ) (after : F)
     → answered ≡ Ok text

@@ -3,3 +3,4 @@ pub mod Solved
 pub mod Commands
 pub mod Headline
 pub mod Halts
+pub mod Lines

@@ -8,6 +8,7 @@ use Rattle.syswcet.specs.CheckLone.{CheckLone}
 use Rattle.syswcet.specs.BoundLone.{BoundLone}
 use Rattle.syswcet.specs.ShowOil.{ShowOil}
 use Rattle.syswcet.specs.ShowCode.{ShowCode}
+use Rattle.syswcet.specs.Replay.{Replay}
 
 -- the names of the files that a command reads; words that have no shape name none
 abbrev pub files_of : Option Command → List (List ℕ)
@@ -16,6 +17,7 @@ files_of (Some (command.CheckLone image certificate)) = image ∷ certificate �
 files_of (Some (command.BoundLone image states pivots)) = image ∷ states ∷ []
 files_of (Some (command.ShowOil oil)) = oil ∷ []
 files_of (Some (command.ShowCode oil elf timing)) = oil ∷ elf ∷ timing ∷ []
+files_of (Some (command.Replay oil elf timing schedule)) = oil ∷ elf ∷ timing ∷ schedule ∷ []
 
 abbrev pub StepsOf : {F : Type 0} → Calls F → Option Command → Step F (List ℕ)
 StepsOf calls None = Judged (λ given. given ≡ Err words_refusal)
@@ -23,3 +25,4 @@ StepsOf calls (Some (command.CheckLone image certificate)) = CheckLone calls ima
 StepsOf calls (Some (command.BoundLone image states pivots)) = BoundLone calls image states pivots
 StepsOf calls (Some (command.ShowOil oil)) = ShowOil calls oil
 StepsOf calls (Some (command.ShowCode oil elf timing)) = ShowCode calls oil elf timing
+StepsOf calls (Some (command.Replay oil elf timing schedule)) = Replay calls oil elf timing schedule

@@ -19,6 +19,9 @@ use Rattle.timing_file.specs.declared.fault.TimingKind.TheVariants as timing_kin
 use Rattle.timing_file.specs.declared.timing.Timing.{Timing}
 use Rattle.timing_file.specs.Timing.{timing_in}
 use Rattle.wcet_atomic_blocks.specs.Plants.{PlantData, IsPlantOf}
+use Rattle.replay.specs.declared.fault.ScheduleKind.TheVariants as schedule_kinds
+use Rattle.replay.specs.declared.schedule.Schedule.{Schedule}
+use Rattle.replay.specs.Schedule.{schedule_in}
 use Rattle.command_steps.specs.Steps.{Calls, IsCall}
 use Rattle.reports.specs.Verdicts.{yes_text}
 use Rattle.reports.specs.Solved.{bound_text}
@@ -26,6 +29,7 @@ use Rattle.syswcet.specs.declared.words.Command.{Command}
 use Rattle.syswcet.specs.declared.words.Command.TheVariants as command
 use Rattle.syswcet.specs.Inputs.{lone_task}
 use Rattle.syswcet.specs.ShowCode.{code_text}
+use Rattle.syswcet.specs.Replay.{SaysResponses}
 
 -- The bytes are those of the file with this name: a call of `read` gave them, and where the object tells at the start what
 -- the name holds, it tells them.
@@ -72,6 +76,23 @@ pub record ShowsCode (oil elf timing text : List ℕ) : Type 0 where
   pub plant_is : IsPlantOf image system times plant
   pub shown : text ≡ code_text plant
 
+-- The files are a system, its image and its timing, and a schedule, and the text has the responses of the run that the schedule plays. The run
+-- keeps what is declared, so every bound of a task holds of them.
+pub record ReplaysSchedule (oil elf timing schedule text : List ℕ) : Type 0 where
+  pub tree : Tree
+  pub is_text : IsTextOf tree oil
+  pub system : System
+  pub system_is : IsSystemOf tree system
+  pub image : ImageData
+  pub image_is : elf_of elf ≡ Ok image
+  pub times : Timing
+  pub times_are : IsGiven timing_kinds.Json timing_in timing (Ok times)
+  pub plant : PlantData
+  pub plant_is : IsPlantOf image system times plant
+  pub listed : Schedule
+  pub listed_is : IsGiven schedule_kinds.Json (schedule_in plant.system) schedule (Ok listed)
+  pub says : SaysResponses plant listed text
+
 -- What the text of each command means of the bytes of its files.
 abbrev pub SaysTruly : (List ℕ → List ℕ → Type 0) → Option Command → List ℕ → Type 0
 SaysTruly Bytes None text = ⊥
@@ -82,6 +103,9 @@ SaysTruly Bytes (Some (command.BoundLone image states pivots)) text =
 SaysTruly Bytes (Some (command.ShowOil oil)) text = (bytes : List ℕ) × Bytes oil bytes × ShowsLayout bytes text
 SaysTruly Bytes (Some (command.ShowCode oil elf timing)) text =
     (o : List ℕ) × Bytes oil o × ((e : List ℕ) × Bytes elf e × ((t : List ℕ) × Bytes timing t × ShowsCode o e t text))
+SaysTruly Bytes (Some (command.Replay oil elf timing schedule)) text =
+    (o : List ℕ) × Bytes oil o
+    × ((e : List ℕ) × Bytes elf e × ((t : List ℕ) × Bytes timing t × ((s : List ℕ) × Bytes schedule s × ReplaysSchedule o e t s text)))
 
 -- A text was written whole, and it says what the command is for.
 abbrev pub Means : {F : Type 0} → (F → FilesOutside) → Calls F → F → Option Command → SinkOutside → SinkOutside → Type 0

@@ -6,5 +6,6 @@ pub mod BoundLone
 pub mod ShowOil
 pub mod Plants
 pub mod ShowCode
+pub mod Replay
 pub mod Commands
 pub mod Headline

@@ -5,7 +5,7 @@ use Rattle.std.specs.List.{list_all}
 use Rattle.std.specs.Option.{option_map}
 use Rattle.std.specs.Str.Parse.{digits_value}
 use Rattle.syswcet.specs.declared.words.Command.{Command}
-use Rattle.syswcet.specs.declared.words.Command.TheVariants.{CheckLone, BoundLone, ShowOil, ShowCode}
+use Rattle.syswcet.specs.declared.words.Command.TheVariants.{CheckLone, BoundLone, ShowOil, ShowCode, Replay}
 
 -- the word at a place, counted from 0
 abbrev pub word : List (List ℕ) → ℕ → List ℕ
@@ -14,6 +14,10 @@ word words i = get_or words i []
 -- so many words, the first two of which are these
 abbrev pub is_shape : List (List ℕ) → List ℕ → List ℕ → ℕ → Bool
 is_shape words first second count = (length words == count) && bytes_eq (word words 0) first && bytes_eq (word words 1) second
+
+-- so many words, the first of which is this
+abbrev pub is_single : List (List ℕ) → List ℕ → ℕ → Bool
+is_single words first count = (length words == count) && bytes_eq (word words 0) first
 
 -- a number: 1 to 10 decimal digits
 abbrev pub is_number : List ℕ → Bool
@@ -46,12 +50,16 @@ show_oil words = ShowOil (word words 2)
 abbrev pub show_code : List (List ℕ) → Command
 show_code words = ShowCode (word words 2) (word words 3) (word words 4)
 
+abbrev pub replay : List (List ℕ) → Command
+replay words = Replay (word words 1) (word words 2) (word words 3) (word words 4)
+
 -- What the words ask for:
 --
 --   check lone IMAGE CERT
 --   bound lone IMAGE STATES [--pivots N]
 --   show oil OIL
 --   show code OIL ELF TIMING
+--   replay OIL ELF TIMING SCHEDULE
 abbrev pub command_of : List (List ℕ) → Option Command
 command_of words =
     if is_shape words (codes "check") (codes "lone") 4 then Some (check_lone words)
@@ -60,7 +68,8 @@ command_of words =
     then option_map (bound_lone words) (pivots_of (word words 5))
     else (if is_shape words (codes "show") (codes "oil") 3 then Some (show_oil words)
     else (if is_shape words (codes "show") (codes "code") 5 then Some (show_code words)
-    else None))))
+    else (if is_single words (codes "replay") 5 then Some (replay words)
+    else None)))))
 
 check_lone_case : command_of (codes "check" ∷ codes "lone" ∷ codes "a" ∷ codes "c" ∷ []) ≡ Some (CheckLone (codes "a") (codes "c"))
 check_lone_case = refl
@@ -80,3 +89,7 @@ no_pivots_case = refl
 
 show_oil_case : command_of (codes "show" ∷ codes "oil" ∷ codes "lone" ∷ []) ≡ Some (ShowOil (codes "lone"))
 show_oil_case = refl
+
+replay_case : command_of (codes "replay" ∷ codes "o" ∷ codes "e" ∷ codes "t" ∷ codes "s" ∷ []) ≡ Some
+    (Replay (codes "o") (codes "e") (codes "t") (codes "s"))
+replay_case = refl

@@ -11,6 +11,7 @@ mod check_lone;
 mod images;
 mod oil_files;
 mod plants;
+mod played;
 mod run;
 mod show_code;
 mod show_oil;

@@ -9,6 +9,7 @@ ghost use Rattle.syswcet.specs.Headline.{Means};
 
 use crate::bound_lone::bound_lone;
 use crate::check_lone::check_lone;
+use crate::played::replayed;
 use crate::show_code::show_code;
 use crate::show_oil::show_oil;
 use crate::words::{Command, command_of};
@@ -77,5 +78,11 @@ fn answer_command<F: Files>(alloc: Global, command: &Command, files: &mut F) -> 
         } => bound_lone(alloc, image, states, *pivots, files),
         Command::ShowOil { oil } => show_oil(alloc, oil, files),
         Command::ShowCode { oil, elf, timing } => show_code(alloc, oil, elf, timing, files),
+        Command::Replay {
+            oil,
+            elf,
+            timing,
+            schedule,
+        } => replayed(alloc, oil, elf, timing, schedule, files),
     }
 }

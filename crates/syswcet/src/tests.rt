@@ -258,6 +258,30 @@ fn rows_without_a_greatest_value_are_refused(rt: HostRuntime) -> Result<(), Fail
 
 #[test]
 #[rattlefmt::skip]
+fn schedules_are_played(rt: HostRuntime) -> Result<(), Fail> {
+    for (words, schedule, text, status) in [
+        ("replay oil elf times p", r#"{"mode":"Main","end":10000,"arrivals":[{"at":2,"source":"Tick"}]}"#, "H 2 52 ended\nT 0 75 ended\n", Status::Ok),
+        ("replay oil elf times p", r#"{"mode":"Main","end":10000,"arrivals":[{"at":2,"source":"Tick"},{"at":900,"source":"Tick"}]}"#, "notdeclared TooClose Tick 900\n", Status::NotDeclared),
+        ("replay oil elf times p", r#"{"mode":"Main","end":2,"arrivals":[]}"#, "T 0 2 open\n", Status::Ok),
+        ("replay oil elf times p", "[]", "schedule Shape\n", Status::Input),
+        ("replay oil elf times none", "[]", "read none\n", Status::ReadFault),
+        ("replay oil elf times", "[]", "words\n", Status::Words),
+    ] {
+        let held = [
+            ("oil", TWO_TASKS.as_bytes()),
+            ("elf", TWO_TASKS_ELF.as_slice()),
+            ("times", TWO_TASKS_TIMES.as_bytes()),
+            ("p", schedule.as_bytes()),
+        ];
+        let (ended, out) = outcome(rt.alloc(), words, &held, Failing::Nothing)?;
+        assert_eq!(rt; ended, status);
+        assert_eq!(rt; out.written(), text.as_bytes());
+    }
+    Ok(())
+}
+
+#[test]
+#[rattlefmt::skip]
 fn the_code_of_a_system_is_shown(rt: HostRuntime) -> Result<(), Fail> {
     for (words, text, status) in [
         ("show code oil elf times", "T nodes 4 blocks 1 loops 0\nH nodes 3 blocks 1 loops 0\n", Status::Ok),

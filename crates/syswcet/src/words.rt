@@ -3,7 +3,7 @@ ghost use Rattle.std.specs.Prelude.{◌≡◌, ◌<◌, ◌≤◌, ◌&&◌, nat
 ghost use Rattle.std.specs.Char.{is_ascii_digit};
 ghost use Rattle.std.specs.List.{list_all};
 ghost use Rattle.std.specs.Option.{option_map};
-ghost use Rattle.syswcet.specs.Words.{word, check_lone, bound_lone, show_oil, show_code, command_of, is_shape, is_number, number_of, pivots_of};
+ghost use Rattle.syswcet.specs.Words.{word, check_lone, bound_lone, show_oil, show_code, replay, command_of, is_single, is_shape, is_number, number_of, pivots_of};
 
 use listed::Memory;
 use std::alloc::Global;
@@ -39,6 +39,13 @@ pub enum Command {
         elf: Text,
         timing: Text,
     },
+    /// `replay OIL ELF TIMING SCHEDULE` plays a schedule, and tells how long each activation lasts.
+    Replay {
+        oil: Text,
+        elf: Text,
+        timing: Text,
+        schedule: Text,
+    },
 }
 
 /// The command of the words; `None` exactly where they have no shape.
@@ -59,6 +66,9 @@ pub fn command_of(alloc: Global, words: &Words) -> Result<Option<Command>, Memor
     }
     if is_shape(words, "show", "code", 5) {
         return show_code(alloc, words);
+    }
+    if is_single(words, "replay", 5) {
+        return replay(alloc, words);
     }
     Ok(None)
 }
@@ -109,6 +119,22 @@ fn show_code(alloc: Global, words: &Words) -> Result<Option<Command>, Memory>
     Ok(Some(Command::ShowCode { oil, elf, timing }))
 }
 
+fn replay(alloc: Global, words: &Words) -> Result<Option<Command>, Memory>
+    requires { length words.now ≡ 5 }
+    ensures { IfOk result (λ command. command ≡ Some (replay words.now)) }
+{
+    let oil = word(alloc, words, 1)?;
+    let elf = word(alloc, words, 2)?;
+    let timing = word(alloc, words, 3)?;
+    let schedule = word(alloc, words, 4)?;
+    Ok(Some(Command::Replay {
+        oil,
+        elf,
+        timing,
+        schedule,
+    }))
+}
+
 /// The word at a place, counted from 0.
 fn word(alloc: Global, words: &Words, place: usize) -> Result<Text, Memory>
     requires { place < length words.now }
@@ -123,6 +149,14 @@ fn is_shape(words: &Words, first: &str, second: &str, count: usize) -> bool
     ensures { result ≡ is_shape words.now first.now second.now count }
 {
     words.len() == count && is(words.get(0), first) && is(words.get(1), second)
+}
+
+/// Whether there are so many words, one at least, and the first one is this.
+fn is_single(words: &Words, first: &str, count: usize) -> bool
+    requires { 1 ≤ count }
+    ensures { result ≡ is_single words.now first.now count }
+{
+    words.len() == count && is(words.get(0), first)
 }
 
 /// Whether the word is that text.

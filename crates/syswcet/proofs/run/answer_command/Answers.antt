@@ -18,3 +18,8 @@ pub returns-in-ShowCode : goal.returns-in-ShowCode
 returns-in-ShowCode g c =
     let P : Command → Type 0 = λ k. StepsOf (IsCall g.F.Files.outside g.F.Files.reads) (Some k) c.args.files.now c.show_code.result c.show_code.new.files in
     subst P (sym c.in-ShowCode.is) c.show_code.ensures
+
+pub returns-in-Replay : goal.returns-in-Replay
+returns-in-Replay g c =
+    let P : Command → Type 0 = λ k. StepsOf (IsCall g.F.Files.outside g.F.Files.reads) (Some k) c.args.files.now c.replayed.result c.replayed.new.files in
+    subst P (sym c.in-Replay.is) c.replayed.ensures
