@@ -25,9 +25,9 @@ TASK T { PRIORITY = 1; AUTOSTART = TRUE { APPMODE = Main; }; }; };
 TIMES = '{"version":1,"classes":{"default":1},"services":{"default":10},"alarm":10,"interrupt":10}'
 
 
-def elf(words):
+def elf(words, base=0x100):
     """An ELF32 file of RISC-V: one segment, which is the code, and the symbol Task_T at its start."""
-    base, code = 0x100, b"".join(struct.pack("<I", word) for word in words)
+    code = b"".join(struct.pack("<I", word) for word in words)
     names, labels = b"\0Task_T\0", b"\0.text\0.symtab\0.strtab\0"
     text = 84
     table = (text + len(code) + 15) // 16 * 16
