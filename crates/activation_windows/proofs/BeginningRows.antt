@@ -1,6 +1,6 @@
 -- A block is begun only by its moves, and runs only in a state that is come into.
 use Rattle.std.proofs.Common.{◌≡◌, ℕ, ◌≤◌, Bool, true, false, cond, List, [], ◌∷◌, map, All, Option, Some, None, refl, sym, ◌∙◌, ap, subst, arith, is_some, IsSome}
-use Rattle.std.specs.Prelude.{◌&&◌, ◌==◌, nat_eq, option_map, option_and_then, slice_get, ◌-ℤ◌}
+use Rattle.std.specs.Prelude.{◌&&◌, ◌==◌, nat_eq, option_map, option_and_then, slice_get}
 use Rattle.std.specs.List.{flat_map}
 use Rattle.std.specs.Option.{option_map_or}
 use Rattle.std.proofs.lemmas.Bool.{eqb-true, eq-eqb}

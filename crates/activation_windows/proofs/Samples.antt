@@ -8,6 +8,7 @@ pub mod Once
 pub mod TwoModes
 pub mod Locked
 pub mod PreemptedPlant
+pub mod InterruptedGraph
 pub mod InterruptedPlant
 pub mod ScheduledPlant
 pub mod PreemptedRun

@@ -1,9 +1,8 @@
 -- Worked cases: the shadows along a run of two small systems.
-use Rattle.std.specs.Prelude.{◌≡◌, ℕ, zero, suc, ◌+◌, Bool, true, false, List, [], ◌∷◌, ◌++◌, codes, replicate, Option, Some, None, refl}
+use Rattle.std.specs.Prelude.{◌≡◌, ℕ, zero, suc, ◌+◌, true, false, List, [], ◌∷◌, ◌++◌, codes, replicate, Option, Some, None, refl}
 use Rattle.elf_image.specs.Image.{ImageData}
 use Rattle.oil_model.specs.declared.system.System.{System}
 use Rattle.timing_file.specs.declared.timing.Timing.{Timing}
-use Rattle.rv32_machine.specs.ContextStep.{Standing}
 use Rattle.rv32_machine.specs.Registers.{zeros, with_value}
 use Rattle.osek_kernel.specs.declared.context.Context.{Context}
 use Rattle.osek_kernel.specs.declared.context.Context.TheVariants as contexts
@@ -13,9 +12,7 @@ use Rattle.osek_kernel.specs.declared.service.Service.{Service}
 use Rattle.osek_kernel.specs.declared.service.Service.TheVariants.{ActivateTask, TerminateTask, GetResource, ReleaseResource, Schedule, EndIsr}
 use Rattle.osek_kernel.specs.Served.{going_on}
 use Rattle.osek_machine.specs.Events.{Event, Take, Serve}
-use Rattle.flow_graph.specs.declared.flow.Flow.{Flow}
 use Rattle.flow_graph.specs.declared.node.Node.{Node}
-use Rattle.wcet_atomic_blocks.specs.declared.block.Blocks.{Blocks}
 use Rattle.wcet_atomic_blocks.specs.Plants.{PlantData}
 use Rattle.abstract_sched.specs.declared.states.AbsState.{AbsState}
 use Rattle.abstract_sched.specs.declared.states.IsrAt.{IsrAt}
