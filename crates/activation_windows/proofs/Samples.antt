@@ -12,3 +12,4 @@ pub mod InterruptedGraph
 pub mod InterruptedPlant
 pub mod ScheduledPlant
 pub mod PreemptedRun
+pub mod Bounded

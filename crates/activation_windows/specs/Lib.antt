@@ -4,3 +4,4 @@ pub mod Cases
 pub mod ShadowCases
 pub mod Bounds
 pub mod Samples
+pub mod Worked

@@ -6,6 +6,7 @@ ghost use Rattle.activation_windows.specs.Bounds.{UsesArePoints};
 ghost use Rattle.activation_windows.specs.Counted.{MeetsArriving, MeetsBeginning, MeetsFirst};
 ghost use Rattle.activation_windows.specs.Counted.{MeetsGoingRound, MeetsLeaving, MeetsPassing};
 ghost use Rattle.activation_windows.specs.Counted.{MeetsStanding, UsesAreColumns, UsesCoverTime};
+ghost use Rattle.activation_windows.specs.Worked.{HasDeclaredRun, SamplesAreBounded};
 
 /// Each use of an activation's window is a column of the rows of its task.
 pub fn uses_are_columns()
@@ -67,4 +68,14 @@ pub fn good_multipliers_bound_activations()
 /// So does the greatest value of the rows.
 pub fn greatest_value_bounds_activations()
     ensures { GreatestValueBounds }
+{}
+
+/// The theorem at work: the bounds that certificates give for a task of each of three small systems.
+pub fn samples_are_bounded()
+    ensures { SamplesAreBounded }
+{}
+
+/// A run of the first of them that meets every premise, in which the task has ended.
+pub fn a_declared_run_is_there()
+    ensures { HasDeclaredRun }
 {}

@@ -8,7 +8,7 @@
 mod laws;
 
 pub use laws::{
-    good_multipliers_bound_activations, greatest_value_bounds_activations, meets_arriving,
-    meets_beginning, meets_first, meets_going_round, meets_leaving, meets_passing, meets_standing,
-    uses_are_columns, uses_are_points, uses_cover_time,
+    a_declared_run_is_there, good_multipliers_bound_activations, greatest_value_bounds_activations,
+    meets_arriving, meets_beginning, meets_first, meets_going_round, meets_leaving, meets_passing,
+    meets_standing, samples_are_bounded, uses_are_columns, uses_are_points, uses_cover_time,
 };

@@ -143,7 +143,7 @@ asks = with_value sevens 17 2
 abbrev h_asks : List ℕ
 h_asks = with_value zeros 17 2
 
-abbrev state : ℕ → ℕ → List (Option Standing) → List Bool → Kernel → MachineState
+abbrev pub state : ℕ → ℕ → List (Option Standing) → List Bool → Kernel → MachineState
 state moment last_start standings pending kernel = record {
   kernel = kernel;
   standings = standings;
@@ -159,7 +159,7 @@ alone = initial system 0
 abbrev both : Kernel
 both = activate alone 1
 
-abbrev ended : Kernel
+abbrev pub ended : Kernel
 ended = suspend alone t
 
 -- T runs alone for two cycles
@@ -221,7 +221,7 @@ h_made = (
 )
 
 -- T goes on, and ends at 75
-abbrev t_ended : List Event
+abbrev pub t_ended : List Event
 t_ended = calls t (stands 0x10c asks) ∷ executes t (stands 0x108 sevens) (stands 0x10c asks) ∷ h_ended
 
 t_made : IsRun image system 0 t_ended (state 75 55 (None ∷ None ∷ []) (false ∷ []) ended)
