@@ -1,4 +1,5 @@
 pub mod Columns
 pub mod Families
 pub mod Rows
+pub mod Links
 pub mod Working
