@@ -1,5 +1,5 @@
--- The refusals of words and files.
-use Rattle.std.specs.Prelude.{ℕ, List, ◌++◌, codes}
+-- The refusals of words and of names.
+use Rattle.std.specs.Prelude.{◌++◌, codes}
 use Rattle.command_steps.specs.declared.status.Reason.TheVariants.{Words, Input}
 use Rattle.command_steps.specs.declared.halt.Refusal.{Refusal}
 use Rattle.command_steps.specs.Refusals.{refusal, newline}
@@ -8,10 +8,6 @@ use Rattle.command_steps.specs.Refusals.{refusal, newline}
 abbrev pub words_refusal : Refusal
 words_refusal = refusal Words (codes "words" ++ newline)
 
--- the named file has a fault
-abbrev pub input_refusal : List ℕ → Refusal
-input_refusal name = refusal Input (codes "input " ++ (name ++ newline))
-
--- the length of a flat image is no multiple of 4
-abbrev pub unaligned_refusal : Refusal
-unaligned_refusal = refusal Input (codes "elf Unaligned" ++ newline)
+-- no task of the system has the name
+abbrev pub task_refusal : Refusal
+task_refusal = refusal Input (codes "task" ++ newline)

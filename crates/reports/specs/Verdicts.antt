@@ -1,9 +1,12 @@
 -- What is said of certificates and lists of scheduler states.
 use Rattle.std.specs.Prelude.{ℕ, List, ◌++◌, codes}
 use Rattle.std.specs.Fmt.{decimal}
+use Rattle.certificate.specs.declared.fault.CertKind.{CertKind}
+use Rattle.certificate.specs.declared.fault.StatesKind.{StatesKind}
 use Rattle.certificate.specs.declared.verdict.Why.{Why}
 use Rattle.certificate.specs.declared.verdict.Why.TheVariants.{MissingInitial, Missing, Misuse, Count, Column, Bound}
-use Rattle.command_steps.specs.declared.status.Reason.TheVariants.{No}
+use Rattle.certificate.specs.Kinds.{cert_word, states_word}
+use Rattle.command_steps.specs.declared.status.Reason.TheVariants.{Input, No}
 use Rattle.command_steps.specs.declared.halt.Refusal.{Refusal}
 use Rattle.command_steps.specs.Refusals.{refusal, newline}
 
@@ -22,3 +25,11 @@ no_text mode Bound = codes "no bound" ++ newline
 
 abbrev pub no_refusal : List ℕ → Why → Refusal
 no_refusal mode why = refusal No (no_text mode why)
+
+-- the bytes are no certificate for the task
+abbrev pub cert_refusal : CertKind → Refusal
+cert_refusal kind = refusal Input (codes "cert " ++ (cert_word kind ++ newline))
+
+-- the bytes are no list of scheduler states
+abbrev pub states_refusal : StatesKind → Refusal
+states_refusal kind = refusal Input (codes "states " ++ (states_word kind ++ newline))

@@ -2,6 +2,7 @@
 ghost use Rattle.std.specs.Prelude.{◌≡◌, ◌++◌, IfOk, OnOk, option_map, string_bytes};
 ghost use Rattle.reports.specs.Code as words;
 
+use crate::put::put;
 use command_steps::{Reason, Refusal};
 use elf_image::ElfKind;
 use flow_graph::CodeKind;
@@ -81,11 +82,4 @@ fn address_text(alloc: Global, address: Option<u32>) -> Result<String, Memory>
         Some(address) => Ok(hex::encode(alloc, address.to_be_bytes())?),
         None => Ok(String::from_str(alloc, "-")?),
     }
-}
-
-fn put(out: &mut Vec<u8>, bytes: &[u8]) -> Result<(), Memory>
-    ensures { OnOk result (out.new.items ≡ out.old.items ++ bytes.now) }
-{
-    out.extend_from_slice(bytes)?;
-    Ok(())
 }

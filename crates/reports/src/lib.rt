@@ -8,6 +8,7 @@
 mod code;
 mod oil;
 mod played;
+mod put;
 mod refusals;
 mod solved;
 mod verdicts;
@@ -15,12 +16,12 @@ mod verdicts;
 pub use code::{blocks_refusal, code_refusal, elf_refusal, push_context_line, timing_refusal};
 pub use oil::{model_refusal, oil_refusal};
 pub use played::{declaration_refusal, misuse_refusal, push_response_line, schedule_refusal};
-pub use refusals::{input_refusal, unaligned_refusal, words_refusal};
+pub use refusals::{task_refusal, words_refusal};
 pub use solved::{
     bound_text, entries_refusal, multiplier_refusal, pivots_refusal, unbounded_refusal,
     wide_refusal,
 };
-pub use verdicts::{no_refusal, yes_text};
+pub use verdicts::{cert_refusal, no_refusal, states_refusal, yes_text};
 
 #[cfg(test)]
 mod tests;

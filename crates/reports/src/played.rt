@@ -2,6 +2,7 @@
 ghost use Rattle.std.specs.Prelude.{◌≡◌, ◌++◌, IfOk, OnOk};
 ghost use Rattle.reports.specs.Played as words;
 
+use crate::put::put;
 use command_steps::{Reason, Refusal};
 use listed::Memory;
 use replay::{PlayKind, ScheduleKind};
@@ -82,11 +83,4 @@ fn ended_word(ended: bool) -> &'static str
     ensures { result.now ≡ words.ended_word ended }
 {
     if ended { "ended" } else { "open" }
-}
-
-fn put(out: &mut Vec<u8>, bytes: &[u8]) -> Result<(), Memory>
-    ensures { OnOk result (out.new.items ≡ out.old.items ++ bytes.now) }
-{
-    out.extend_from_slice(bytes)?;
-    Ok(())
 }

@@ -2,18 +2,22 @@
 ghost use Rattle.std.specs.Prelude.{◌≡◌, ◌++◌, IfOk, string_bytes};
 ghost use Rattle.reports.specs.Solved.{bound_text, ray_line, ray_text, unbounded_refusal, pivots_refusal, entries_refusal, wide_refusal, multiplier_refusal};
 
-use command_steps::{Reason, Refusal, bytes_of};
+use crate::put::put;
+use command_steps::{Reason, Refusal};
 use listed::Memory;
 use std::alloc::{AllocError, Global};
 use wcet_io::Bytes;
 use whole_rows::Row;
 
-/// The task's bound is so many cycles.
-pub fn bound_text(alloc: Global, task: &str, bound: u128) -> Result<Bytes, Memory>
+/// The bound of the task of this name is so many cycles.
+pub fn bound_text(alloc: Global, task: &[u8], bound: u128) -> Result<Bytes, Memory>
     ensures { IfOk result (λ made. made ≡ bound_text task.now bound) }
 {
-    let text = format!(in alloc; "{task} {bound}\n")?;
-    Ok(bytes_of(text))
+    let rest = format!(in alloc; " {bound}\n")?;
+    let mut text = Vec::new(alloc);
+    put(&mut text, task)?;
+    put(&mut text, rest.as_bytes())?;
+    Ok(Bytes::from_vec(text))
 }
 
 /// The limit on pivots was reached.

@@ -13,7 +13,7 @@ fn a_ray_is_written_without_its_zeros(rt: HostRuntime) -> Result<(), Fail> {
         refusal.text.as_slice(),
         b"unbounded\n1 1\n3 25\n".as_slice()
     );
-    let text = bound_text(rt.alloc(), "Idle", 0)?;
+    let text = bound_text(rt.alloc(), b"Idle", 0)?;
     assert_eq!(rt; text.as_slice(), b"Idle 0\n".as_slice());
     Ok(())
 }

@@ -1,23 +1,29 @@
 -- The shapes of the command words.
-use Rattle.std.specs.Prelude.{◌≡◌, ℕ, Bool, ◌&&◌, ◌==◌, List, [], ◌∷◌, length, get_or, codes, bytes_eq, Option, Some, None, if◌then◌else◌, nat_lt, nat_le, option_and_then, refl}
+use Rattle.std.specs.Prelude.{◌≡◌, ℕ, ◌+◌, Bool, ◌&&◌, ◌==◌, List, [], ◌∷◌, length, get_or, codes, bytes_eq, Option, Some, None, if◌then◌else◌, nat_lt, nat_le, option_and_then, refl}
 use Rattle.std.specs.Char.{is_ascii_digit}
 use Rattle.std.specs.List.{list_all}
 use Rattle.std.specs.Option.{option_map}
 use Rattle.std.specs.Str.Parse.{digits_value}
 use Rattle.syswcet.specs.declared.words.Command.{Command}
-use Rattle.syswcet.specs.declared.words.Command.TheVariants.{CheckLone, BoundLone, ShowOil, ShowCode, Replay}
+use Rattle.syswcet.specs.declared.words.Command.TheVariants.{Check, Bound, Certify, All, ShowOil, ShowCode, Replay}
+use Rattle.syswcet.specs.declared.words.Subject.{Subject}
+use Rattle.syswcet.specs.declared.words.Subject.TheVariants.{Lone, Named}
 
 -- the word at a place, counted from 0
 abbrev pub word : List (List ℕ) → ℕ → List ℕ
 word words i = get_or words i []
 
--- so many words, the first two of which are these
-abbrev pub is_shape : List (List ℕ) → List ℕ → List ℕ → ℕ → Bool
-is_shape words first second count = (length words == count) && bytes_eq (word words 0) first && bytes_eq (word words 1) second
+-- there is a word at the place, and it is that text
+abbrev pub has_word : List (List ℕ) → ℕ → List ℕ → Bool
+has_word words i text = nat_lt i (length words) && bytes_eq (word words i) text
 
 -- so many words, the first of which is this
 abbrev pub is_single : List (List ℕ) → List ℕ → ℕ → Bool
-is_single words first count = (length words == count) && bytes_eq (word words 0) first
+is_single words first count = (length words == count) && has_word words 0 first
+
+-- so many words, the first two of which are these
+abbrev pub is_shape : List (List ℕ) → List ℕ → List ℕ → ℕ → Bool
+is_shape words first second count = is_single words first count && has_word words 1 second
 
 -- a number: 1 to 10 decimal digits
 abbrev pub is_number : List ℕ → Bool
@@ -37,12 +43,48 @@ pivots_of text = option_and_then pivots_within (number_of text)
 abbrev pub usual_pivots : ℕ
 usual_pivots = 100000
 
--- the commands, with the words that name their files
-abbrev pub check_lone : List (List ℕ) → Command
-check_lone words = CheckLone (word words 2) (word words 3)
+-- ---- what is analysed: behind the command's name stands `lone IMAGE`, or else `OIL ELF TIMING TASK`
 
-abbrev pub bound_lone : List (List ℕ) → ℕ → Command
-bound_lone words pivots = BoundLone (word words 2) (word words 3) pivots
+abbrev pub is_lone : List (List ℕ) → Bool
+is_lone words = has_word words 1 (codes "lone")
+
+abbrev pub subject_of : List (List ℕ) → Subject
+subject_of words = if is_lone words then Lone (word words 2) else Named (word words 1) (word words 2) (word words 3) (word words 4)
+
+-- the place of the word behind it
+abbrev pub place_behind : List (List ℕ) → ℕ
+place_behind words = if is_lone words then 3 else 5
+
+abbrev pub file_of : List (List ℕ) → List ℕ
+file_of words = word words (place_behind words)
+
+-- that word is the last one
+abbrev pub is_last : List (List ℕ) → Bool
+is_last words = length words == place_behind words + 1
+
+-- `--pivots N` stands behind it, and nothing else
+abbrev pub has_option : List (List ℕ) → Bool
+has_option words = (length words == place_behind words + 3) && has_word words (place_behind words + 1) (codes "--pivots")
+
+-- the limit on pivots that the words behind the file set
+abbrev pub limit_of : List (List ℕ) → Option ℕ
+limit_of words =
+    if is_last words then Some usual_pivots
+    else (if has_option words then pivots_of (word words (place_behind words + 2)) else None)
+
+-- ---- the commands, with the words that name their files
+
+abbrev pub check : List (List ℕ) → Command
+check words = Check (subject_of words) (file_of words)
+
+abbrev pub bound : List (List ℕ) → ℕ → Command
+bound words pivots = Bound (subject_of words) (file_of words) pivots
+
+abbrev pub certify : List (List ℕ) → ℕ → Command
+certify words pivots = Certify (subject_of words) (file_of words) pivots
+
+abbrev pub all : List (List ℕ) → Command
+all words = All (word words 1) (word words 2) (word words 3) (word words 4)
 
 abbrev pub show_oil : List (List ℕ) → Command
 show_oil words = ShowOil (word words 2)
@@ -55,37 +97,54 @@ replay words = Replay (word words 1) (word words 2) (word words 3) (word words 4
 
 -- What the words ask for:
 --
---   check lone IMAGE CERT
---   bound lone IMAGE STATES [--pivots N]
+--   check OIL ELF TIMING TASK CERT                       check lone IMAGE CERT
+--   bound OIL ELF TIMING TASK STATES [--pivots N]        bound lone IMAGE STATES [--pivots N]
+--   certify OIL ELF TIMING TASK STATES [--pivots N]      certify lone IMAGE STATES [--pivots N]
+--   all OIL ELF TIMING STATES
 --   show oil OIL
 --   show code OIL ELF TIMING
 --   replay OIL ELF TIMING SCHEDULE
 abbrev pub command_of : List (List ℕ) → Option Command
 command_of words =
-    if is_shape words (codes "check") (codes "lone") 4 then Some (check_lone words)
-    else (if is_shape words (codes "bound") (codes "lone") 4 then Some (bound_lone words usual_pivots)
-    else (if is_shape words (codes "bound") (codes "lone") 6 && bytes_eq (word words 4) (codes "--pivots")
-    then option_map (bound_lone words) (pivots_of (word words 5))
+    if has_word words 0 (codes "check") then (if is_last words then Some (check words) else None)
+    else (if has_word words 0 (codes "bound") then option_map (bound words) (limit_of words)
+    else (if has_word words 0 (codes "certify") then option_map (certify words) (limit_of words)
+    else (if is_single words (codes "all") 5 then Some (all words)
     else (if is_shape words (codes "show") (codes "oil") 3 then Some (show_oil words)
     else (if is_shape words (codes "show") (codes "code") 5 then Some (show_code words)
     else (if is_single words (codes "replay") 5 then Some (replay words)
-    else None)))))
+    else None))))))
 
-check_lone_case : command_of (codes "check" ∷ codes "lone" ∷ codes "a" ∷ codes "c" ∷ []) ≡ Some (CheckLone (codes "a") (codes "c"))
+-- ---- worked cases
+
+check_lone_case : command_of (codes "check" ∷ codes "lone" ∷ codes "a" ∷ codes "c" ∷ []) ≡ Some (Check (Lone (codes "a")) (codes "c"))
 check_lone_case = refl
+
+check_case : command_of (codes "check" ∷ codes "o" ∷ codes "e" ∷ codes "t" ∷ codes "T" ∷ codes "c" ∷ []) ≡ Some
+    (Check (Named (codes "o") (codes "e") (codes "t") (codes "T")) (codes "c"))
+check_case = refl
 
 no_shape_case : command_of (codes "check" ∷ codes "lone" ∷ codes "a" ∷ []) ≡ None
 no_shape_case = refl
 
-bound_lone_case : command_of (codes "bound" ∷ codes "lone" ∷ codes "a" ∷ codes "k" ∷ []) ≡ Some (BoundLone (codes "a") (codes "k") 100000)
+-- where the second word is `lone`, no other shape is tried
+lone_alone_case : command_of (codes "check" ∷ codes "lone" ∷ codes "e" ∷ codes "t" ∷ codes "T" ∷ codes "c" ∷ []) ≡ None
+lone_alone_case = refl
+
+bound_lone_case : command_of (codes "bound" ∷ codes "lone" ∷ codes "a" ∷ codes "k" ∷ []) ≡ Some (Bound (Lone (codes "a")) (codes "k") 100000)
 bound_lone_case = refl
 
 pivots_case : command_of (codes "bound" ∷ codes "lone" ∷ codes "a" ∷ codes "k" ∷ codes "--pivots" ∷ codes "0012" ∷ []) ≡ Some
-    (BoundLone (codes "a") (codes "k") 12)
+    (Bound (Lone (codes "a")) (codes "k") 12)
 pivots_case = refl
 
 no_pivots_case : command_of (codes "bound" ∷ codes "lone" ∷ codes "a" ∷ codes "k" ∷ codes "--pivots" ∷ codes "0" ∷ []) ≡ None
 no_pivots_case = refl
+
+certify_case : command_of
+    (codes "certify" ∷ codes "o" ∷ codes "e" ∷ codes "t" ∷ codes "T" ∷ codes "k" ∷ codes "--pivots" ∷ codes "7" ∷ []) ≡ Some
+    (Certify (Named (codes "o") (codes "e") (codes "t") (codes "T")) (codes "k") 7)
+certify_case = refl
 
 show_oil_case : command_of (codes "show" ∷ codes "oil" ∷ codes "lone" ∷ []) ≡ Some (ShowOil (codes "lone"))
 show_oil_case = refl

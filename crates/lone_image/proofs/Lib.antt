@@ -1,9 +1,0 @@
-pub mod TermRows
-pub mod Counts
-pub mod Pushed
-pub mod Sizes
-pub mod Simulation
-pub mod Bound
-pub mod Yes
-pub mod StateFaults
-pub mod WorkedRun
