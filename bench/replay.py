@@ -15,7 +15,7 @@ import sys
 import tempfile
 import time
 
-from code import END, OIL, ROOT, elf
+from systems import END, OIL, ROOT, elf
 
 COUNT = [
     0x7FF00313,  # addi x6, x0, 2047
@@ -56,7 +56,7 @@ def main():
             ("e", elf(COUNT + END)),
             ("t", TIMES.encode()),
             ("p", PLAY.encode()),
-            ("q", elf(COUNT + EXIT, 0x10054)),
+            ("q", elf(COUNT + EXIT, base=0x10054)),
         )
         for name, content in files:
             with open(os.path.join(folder, name), "wb") as out:
