@@ -1,8 +1,9 @@
 -- Links: the rows of nodes that say nothing but that one edge is gone along at most as often as another. The columns of
 -- their two edges can be made one.
-use Rattle.std.specs.Prelude.{ℕ, suc, not, ◌&&◌, Bool, true, false, List, [], ◌∷◌, ◌++◌, length, map, Option, Some, None, ℤ, pos, negsuc, int_eq, if◌then◌else◌}
+use Rattle.std.specs.Prelude.{ℕ, suc, not, ◌&&◌, Bool, true, false, List, [], ◌∷◌, ◌++◌, length, map, Option, Some, None, ℤ, pos, negsuc, if◌then◌else◌}
 use Rattle.std.specs.List.{list_any, range_with_len}
 use Rattle.std.specs.Option.{option_or}
+use Rattle.std.specs.Ordering.{int_eq}
 use Rattle.whole_rows.specs.Row.{is_zero}
 use Rattle.row_squeeze.specs.declared.Link.{Link}
 use Rattle.wcet_atomic_blocks.specs.Loops.{loop_instances}
