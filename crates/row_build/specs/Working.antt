@@ -1,5 +1,9 @@
+pub mod Backs
 pub mod Factors
 pub mod Growing
 pub mod Kinds
 pub mod Numbered
 pub mod Pushed
+pub mod Seen
+pub mod Touching
+pub mod Unlinked

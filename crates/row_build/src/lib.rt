@@ -5,6 +5,7 @@
 
 mod activating;
 mod arriving;
+mod backs;
 mod beginning;
 mod columns;
 mod costs;
@@ -14,6 +15,7 @@ mod goings;
 mod into;
 mod kinds;
 mod leaving;
+mod links_made;
 mod looping;
 mod numbered;
 mod numbers;
@@ -22,9 +24,16 @@ mod places;
 mod positions;
 mod rowing;
 mod rows_made;
+mod seen;
 mod standing;
 mod starts;
 mod terms;
+mod touching;
 mod visits;
 
+pub use links_made::links;
+pub use row_squeeze::{Link, Links};
 pub use rows_made::rows;
+
+#[cfg(test)]
+mod tests;

@@ -58,7 +58,7 @@ fn comes_in(plant: &Plant, states: &[AbsState], node: usize, column: NumberedCol
     }
 }
 
-fn leads_to(node: usize, along: NumberedEdge) -> bool
+pub(crate) fn leads_to(node: usize, along: NumberedEdge) -> bool
     ensures { result ≡ words.leads_to node (along_of along) }
 {
     match along.edge.to {

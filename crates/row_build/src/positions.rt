@@ -50,7 +50,7 @@ pub(crate) fn is_first_at(plant: &Plant, node: usize, block: usize) -> bool
 }
 
 /// Whether the node is the first one of the task's entry.
-fn is_first_of(plant: &Plant, task: usize, node: usize) -> bool
+pub(crate) fn is_first_of(plant: &Plant, task: usize, node: usize) -> bool
     ensures { result ≡ words.is_first_of plant.now task node }
 {
     match entry_block(plant, task) {
