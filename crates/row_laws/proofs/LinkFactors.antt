@@ -1,5 +1,5 @@
 -- The factors of rows at the column of an edge.
-use Rattle.std.proofs.Common.{◌≡◌, ◌≢◌, ℕ, ◌*◌, Bool, true, false, cond, List, [], ◌∷◌, ◌++◌, map, filter, flat_map, nat_eq, slice_get, ℤ, pos, negsuc, ◌+ℤ◌, ◌-ℤ◌, ◌*ℤ◌, ◌≤ℤ◌, All, Option, Some, None, refl, ap, ◌∙◌, sym, arith}
+use Rattle.std.proofs.Common.{◌≡◌, ◌≢◌, ℕ, ◌*◌, Bool, true, false, cond, List, [], ◌∷◌, ◌++◌, map, filter, flat_map, nat_eq, get_or, slice_get, ℤ, pos, negsuc, ◌+ℤ◌, ◌-ℤ◌, ◌*ℤ◌, ◌≤ℤ◌, All, Option, Some, None, refl, ap, ◌∙◌, sym, arith}
 use Rattle.std.specs.List.{list_any, range_with_len}
 use Rattle.std.specs.Option.{option_map_or}
 use Rattle.std.proofs.lemmas.Bool.{cond_both, ne_eqb}
@@ -17,9 +17,9 @@ use Rattle.wcet_atomic_blocks.specs.Plants.{PlantData}
 use Rattle.abstract_sched.specs.declared.states.AbsState.{AbsState}
 use Rattle.row_build.specs.Columns as words
 use Rattle.row_build.specs.Columns.{Along, Goes, columns, positions, owner_of, begun_blocks}
-use Rattle.row_build.specs.Families.{Row, counted, one_start, leaves, leaving, leads_to, passes, standing_rows, standing_at, is_owned, stands_once, standing, beginning_rows, beginning_at, beginning, is_listed_edge, bound_of, goes_round, going_round, is_ever_live, arrives_apart, arrives_once, arrives, arriving}
+use Rattle.row_build.specs.Families.{Row, counted, one_start, leaves, leaving, leads_to, passes, stands_by_start, stands_into, standing_rows, standing_at, is_owned, stands_once, standing, begins_by_move, begins_into, beginning_rows, beginning_at, beginning, is_listed_edge, bound_of, goes_round, going_round, is_ever_live, arrives_apart, arrives_once, arrives, arriving}
 use Rattle.row_build.specs.Links.{is_back}
-use Rattle.row_laws.proofs.LinkLists.{All-flat_map, none_passes}
+use Rattle.row_laws.proofs.LinkLists.{All-map_each, All-two, All-flat_map, none_passes}
 
 -- ---- The row of a node
 
@@ -65,13 +65,13 @@ leaving_allows plant task along state = omega (arith, ints)
 pub first_rows_allow : (plant : PlantData) (states : List AbsState) (task : ℕ) (along : Along) → All (Allows along) (one_start ∷ leaving plant states task)
 first_rows_allow plant states task along =
     All-cons (Allows along) one_start (leaving plant states task) (one_start_allows along)
-    (All-map (Allows along) (leaves plant task) (filter (λ state. words.is_active_in state (contexts.Task task)) states) (λ k d within. leaving_allows plant task along _))
+    (All-map_each (Allows along) (leaves plant task) (filter (λ state. words.is_active_in state (contexts.Task task)) states) (leaving_allows plant task along))
 
 standing_allows : (plant : PlantData) (states : List AbsState) (task : ℕ) (along : Along) → All (Allows along) (standing plant states task)
 standing_allows plant states task along =
     All-append (Allows along) (flat_map (standing_at plant task) nodes) (map (stands_once plant) some)
     (All-flat_map (Allows along) (standing_at plant task) nodes (λ node. by_owner node (owner_of plant node)))
-    (All-map (Allows along) (stands_once plant) some (λ k d within. once_allows _))
+    (All-map_each (Allows along) (stands_once plant) some once_allows)
   where
     nodes : List ℕ
     nodes = positions plant states task
@@ -85,7 +85,8 @@ standing_allows plant states task along =
     by_owner : (node : ℕ) (o : Option Context) → All (Allows along) (option_map_or (λ context. standing_rows plant task context node) o [])
     by_owner node None = All-nil (Allows along)
     by_owner node (Some context) =
-        All-cons (Allows along) _ _ (omega (arith, ints)) (All-cons (Allows along) _ _ (omega (arith, ints)) (All-nil (Allows along)))
+        All-two (Allows along) (stands_by_start plant task context node) (stands_into plant task context node)
+        (omega (arith, ints)) (omega (arith, ints))
 
 beginning_allows : (plant : PlantData) (task : ℕ) (along : Along) → All (Allows along) (beginning plant task)
 beginning_allows plant task along =
@@ -94,7 +95,8 @@ beginning_allows plant task along =
     by_block : (number : ℕ) (o : Option Block) → All (Allows along) (option_map_or (beginning_rows plant task number) o [])
     by_block number None = All-nil (Allows along)
     by_block number (Some block) =
-        All-cons (Allows along) _ _ (omega (arith, ints)) (All-cons (Allows along) _ _ (omega (arith, ints)) (All-nil (Allows along)))
+        All-two (Allows along) (begins_by_move plant number block.begin) (begins_into plant task number (context_at plant.system block.begin.owner))
+        (omega (arith, ints)) (omega (arith, ints))
 
 round_factor : (bound : ℕ) (enters : Bool) → (pos 0 -ℤ pos bound *ℤ (counted enters +ℤ (pos 0 +ℤ pos 0))) ≤ℤ pos 0
 round_factor bound true = omega (arith, ints)
@@ -102,7 +104,8 @@ round_factor bound false = omega (arith, ints)
 
 going_round_allows : (plant : PlantData) (along : Along) → is_back plant along ≡ false → All (Allows along) (going_round plant)
 going_round_allows plant along not_back =
-    All-map (Allows along) (goes_round plant) instances (λ k d within. allows _ (others k d within))
+    All-map (Allows along) (goes_round plant) instances
+    (λ k d within. allows (get_or instances k d) (others k d within))
   where
     instances : List LoopInstance
     instances = loop_instances plant.flow plant.blocks.blocks plant.timing.loops
@@ -118,7 +121,7 @@ apart_factor distance cost = omega (arith, ints)
 
 arriving_allows : (plant : PlantData) (along : Along) → All (Allows along) (arriving plant)
 arriving_allows plant along =
-    All-map (Allows along) (arrives plant) (filter (is_ever_live plant) (range_with_len 0 (source_count plant.system))) (λ k d within. allows _)
+    All-map_each (Allows along) (arrives plant) (filter (is_ever_live plant) (range_with_len 0 (source_count plant.system))) allows
   where
     allows : (source : ℕ) → Allows along (arrives plant source)
     allows source =

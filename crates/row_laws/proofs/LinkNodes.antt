@@ -1,5 +1,5 @@
 -- What a link says of its node: no block begins there, and just one edge leads to it from another node.
-use Rattle.std.proofs.Common.{◌≡◌, ◌≢◌, ℕ, suc, zero, ◌+◌, ◌<◌, Bool, true, false, cond, List, [], ◌∷◌, ◌++◌, map, length, nat_eq, slice_get, ℤ, pos, negsuc, ◌+ℤ◌, ◌-ℤ◌, Contains, Option, Some, None, inl, inr, refl, sym, ◌∙◌, ap, subst, arith}
+use Rattle.std.proofs.Common.{◌≡◌, ◌≢◌, ℕ, suc, zero, ◌+◌, ◌<◌, Bool, true, false, cond, List, [], ◌∷◌, ◌++◌, map, filter, length, nat_eq, slice_get, ℤ, pos, negsuc, ◌+ℤ◌, ◌-ℤ◌, Contains, Option, Some, None, inl, inr, refl, sym, ◌∙◌, ap, subst, arith}
 use Rattle.std.specs.Prelude.{◌==◌, not, option_and_then}
 use Rattle.std.specs.List.{range_with_len}
 use Rattle.std.specs.Option.{option_map_or}
@@ -17,7 +17,7 @@ use Rattle.wcet_atomic_blocks.specs.Plants.{PlantData, IsPlant}
 use Rattle.wcet_atomic_blocks.proofs.GraphFacts.{edge_between}
 use Rattle.abstract_sched.specs.declared.states.AbsState.{AbsState}
 use Rattle.scheduler_moves.specs.Moves.{entry_block}
-use Rattle.row_build.specs.Columns.{Along, Column, Starts, Moves, Goes, Begins, Stands, starts, moves, alongs, alongs_at, begun_blocks, positions, columns, is_own_entry, is_first_of}
+use Rattle.row_build.specs.Columns.{Along, Column, Going, Starts, Moves, Goes, Begins, Stands, starts, goings, is_active_in, alongs, alongs_at, begun_blocks, positions, columns, is_own_entry, is_first_of}
 use Rattle.row_build.specs.Families.{counted, leads_to, passes, is_first_at}
 use Rattle.row_build.specs.Links.{entries_from, link_of_entries, link_at}
 use Rattle.row_laws.proofs.LinkLists.{place_of_member, first_member, later_member, kept_member, mapped_member, flat_member, range_member}
@@ -30,9 +30,10 @@ along_at : (node first place number : ℕ) (edges : List (Edge ℕ)) (edge : Edg
     → Contains (alongs_at node first edges) (record { node = node; place = number; edge = edge })
 along_at node first place number [] edge at is = absurd (none-some edge at)
 along_at node first zero number (e ∷ es) edge at is =
-    let here : first ≡ number = omega arith in
-    let same : e ≡ edge = same_Some e edge at in
-    rw (same, here) (first_member (record { node = node; place = number; edge = edge }) (alongs_at node (suc number) es))
+    let same : number ≡ first = omega arith in
+    subst (λ (n : ℕ). Contains (alongs_at node first (e ∷ es)) (record { node = node; place = n; edge = edge })) (sym same)
+    (subst (λ (g : Edge ℕ). Contains (alongs_at node first (e ∷ es)) (record { node = node; place = first; edge = g })) (same_Some e edge at)
+    (first_member (record { node = node; place = first; edge = e }) (alongs_at node (suc first) es)))
 along_at node first (suc place) number (e ∷ es) edge at is =
     later_member (record { node = node; place = number; edge = edge }) (record { node = node; place = first; edge = e }) (alongs_at node (suc first) es)
     (along_at node (suc first) place number es edge at (omega arith))
@@ -50,7 +51,13 @@ behind : (plant : PlantData) (states : List AbsState) (task : ℕ) (column : Col
     → Contains (map Goes (alongs plant) ++ (map Begins (begun_blocks plant task) ++ map Stands (positions plant states task))) column
     → Contains (columns plant states task) column
 behind plant states task column has =
-    Contains-append_right _ _ column (Contains-append_right _ _ column has)
+    Contains-append_right (map Starts (starts plant states task)) (map Moves active ++ rest) column (Contains-append_right (map Moves active) rest column has)
+  where
+    active : List Going
+    active = filter (λ going. is_active_in going.from (contexts.Task task)) (goings plant states)
+
+    rest : List Column
+    rest = map Goes (alongs plant) ++ (map Begins (begun_blocks plant task) ++ map Stands (positions plant states task))
 
 goes_member : (plant : PlantData) (states : List AbsState) (task : ℕ) (along : Along) → Contains (alongs plant) along
     → Contains (columns plant states task) (Goes along)

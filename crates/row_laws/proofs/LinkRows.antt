@@ -69,7 +69,6 @@ linked plant states task row link has =
     (λ at. absurd (has_none (first_rows plant states task) row link at))
     (λ j place at. append_cases of_nodes (without_links (last_rows plant states task)) j (Some link) at
     (λ here. let there = range_place at_node 0 (length plant.flow.nodes) j (Some link) here in
-    let count = length-map (first_rows plant states task) (λ (r : Row). ◌≡◌ {A = ℕ} 0 0) in
     record { node = j; row_is = record { within = there.0; place = place_is j place }; linked = ap at_node (sym (zero_plus j)) ∙ there.1 })
     (λ i later there. absurd (has_none (last_rows plant states task) i link there)))
   where
@@ -83,12 +82,14 @@ linked plant states task row link has =
     zero_plus n = omega arith
 
     place_is : (j : ℕ) → row ≡ length (without_links (first_rows plant states task)) + j → row ≡ length (first_rows plant states task) + j
-    place_is j e = e ∙ ap (λ n. n + j) (length-map (first_rows plant states task) (λ r. None {A = Link}))
+    place_is j e =
+        let no_link : Row → Option Link = λ row. None in
+        e ∙ ap (λ n. n + j) (length-map (first_rows plant states task) no_link)
 
 -- as many links as rows
 pub links_counted : (plant : PlantData) (states : List AbsState) (task : ℕ) → length (links_of plant states task) ≡ length (rows_of plant states task).rows
 links_counted plant states task =
-    simp (length-append, length-map) (refl)
+    simp (length-append, length-map)
 
 -- ---- Entries
 
