@@ -1,9 +1,9 @@
 -- No chain of links comes back to where it began.
-use Rattle.std.proofs.Common.{◌≡◌, ◌≢◌, ℕ, ◌<◌, Bool, true, false, List, length, slice_get, Option, Some, None, IsSomeAnd, option_map, inl, inr, refl, sym, ◌∙◌, ap, subst}
+use Rattle.std.proofs.Common.{◌≡◌, ℕ, ◌<◌, true, List, length, slice_get, Option, Some, None, IsSomeAnd, option_map, inl, inr, refl, sym, ◌∙◌, ap, subst}
 use Rattle.std.proofs.lemmas.Bool.{cases_eq}
 use Rattle.row_squeeze.specs.declared.Link.{Link}
 use Rattle.wcet_atomic_blocks.specs.declared.block.Block.{Block}
-use Rattle.wcet_atomic_blocks.specs.Blocks.{HasEdge, IsInBlock, begins, along, IsBlock, is_service}
+use Rattle.wcet_atomic_blocks.specs.Blocks.{IsInBlock, begins, along, IsBlock}
 use Rattle.wcet_atomic_blocks.specs.NodeSets.{holds}
 use Rattle.wcet_atomic_blocks.specs.PlantLaws.{EveryNodeLies}
 use Rattle.wcet_atomic_blocks.specs.Plants.{PlantData, IsPlant}
@@ -16,7 +16,8 @@ use Rattle.row_laws.proofs.LinkRanks.{HasLimit, IsEnough, first_has_limit, next_
 
 -- where the link of the node leads
 abbrev pub node_before : PlantData → List AbsState → ℕ → ℕ → Option ℕ
-node_before plant states task node = option_map (λ link. origin_at (columns plant states task) link.incoming) (link_at plant task (columns plant states task) node)
+node_before plant states task node =
+    option_map (λ link. origin_at (columns plant states task) link.incoming) (link_at plant task (columns plant states task) node)
 
 before_is : (plant : PlantData) (states : List AbsState) (task node : ℕ) (o : Option Link) → link_at plant task (columns plant states task) node ≡ o
     → node_before plant states task node ≡ option_map (λ link. origin_at (columns plant states task) link.incoming) o

@@ -11,9 +11,12 @@ use Rattle.wcet_atomic_blocks.specs.Plants.{PlantData}
 use Rattle.row_build.specs.Columns.{Along, Column, Starts, Moves, Goes, Begins, Stands}
 use Rattle.row_build.specs.Links.{Entry, entries_from, is_back, is_edge, is_outgoing, is_incoming, link_of_pair, link_of_entries}
 use Rattle.row_build.proofs.Dense.{zero_from}
-use Rattle.row_laws.proofs.LinkLists.{place_of_member, first_member, later_member}
+use Rattle.row_laws.proofs.LinkLists.{place_of_member, later_member}
 
 -- ---- The entries of a row
+
+abbrev entry_for : (Column → ℤ) → ℕ → Column → Entry
+entry_for factor place column = record { place = place; column = column; factor = factor column }
 
 -- the entry at that place stands for a column and its factor
 pub record IsEntry (factor : Column → ℤ) (first : ℕ) (columns : List Column) (entry : Entry) : Type 0 where
@@ -27,19 +30,19 @@ later_entry : (factor : Column → ℤ) (first : ℕ) (column : Column) (columns
 later_entry factor first column columns entry is =
     record { number = suc is.number; place_is = (let e = is.place_is in omega arith); stands = is.stands; factor_is = is.factor_is }
 
-pub entry_is : (factor : Column → ℤ) (first : ℕ) (columns : List Column) (k : ℕ) (entry : Entry) → slice_get (entries_from factor first columns) k ≡ Some entry
-    → IsEntry factor first columns entry
+pub entry_is : (factor : Column → ℤ) (first : ℕ) (columns : List Column) (k : ℕ) (entry : Entry)
+    → slice_get (entries_from factor first columns) k ≡ Some entry → IsEntry factor first columns entry
 entry_is factor first [] k entry at = absurd (none-some entry at)
 entry_is factor first (column ∷ columns) k entry at =
     by (is_zero (factor column)) k at (λ j there. later_entry factor first column columns entry (entry_is factor (suc first) columns j entry there))
   where
     by : (b : Bool) (k : ℕ)
-        → slice_get (cond b (entries_from factor (suc first) columns) (record { place = first; column = column; factor = factor column } ∷ entries_from factor (suc first) columns)) k ≡ Some entry
+        → slice_get (cond b (entries_from factor (suc first) columns) (entry_for factor first column ∷ entries_from factor (suc first) columns)) k ≡ Some entry
         → ((j : ℕ) → slice_get (entries_from factor (suc first) columns) j ≡ Some entry → IsEntry factor first (column ∷ columns) entry)
         → IsEntry factor first (column ∷ columns) entry
     by true k at more = more k at
     by false zero at more =
-        let same : record { place = first; column = column; factor = factor column } ≡ entry = same_Some _ entry at in
+        let same : entry_for factor first column ≡ entry = same_Some _ entry at in
         record {
           number = 0;
           place_is = sym (ap (λ (e : Entry). e.place) same) ∙ omega arith;
@@ -51,28 +54,28 @@ entry_is factor first (column ∷ columns) k entry at =
 -- every factor that isn't 0 is among the entries
 pub has_entry : (factor : Column → ℤ) (first : ℕ) (columns : List Column) (k place : ℕ) (column : Column) → slice_get columns k ≡ Some column
     → is_zero (factor column) ≡ false → place ≡ first + k
-    → Contains (entries_from factor first columns) (record { place = place; column = column; factor = factor column })
+    → Contains (entries_from factor first columns) (entry_for factor place column)
 has_entry factor first [] k place column at not_zero is = absurd (none-some column at)
 has_entry factor first (other ∷ columns) zero place column at not_zero is = by (is_zero (factor other)) refl
   where
     same : other ≡ column
     same = same_Some other column at
 
-    this : ◌≡◌ {A = Entry} (record { place = first; column = other; factor = factor other }) (record { place = place; column = column; factor = factor column })
+    this : entry_for factor first other ≡ entry_for factor place column
     this = let here : first ≡ place = omega arith in
-        ap {B = Entry} (λ (p : ℕ). record { place = p; column = other; factor = factor other }) here ∙ ap {B = Entry} (λ (c : Column). record { place = place; column = c; factor = factor c }) same
+        ap (λ (p : ℕ). entry_for factor p other) here ∙ ap (entry_for factor place) same
 
     by : (b : Bool) → is_zero (factor other) ≡ b
-        → Contains (cond b (entries_from factor (suc first) columns) (record { place = first; column = other; factor = factor other } ∷ entries_from factor (suc first) columns))
-        (record { place = place; column = column; factor = factor column })
+        → Contains (cond b (entries_from factor (suc first) columns) (entry_for factor first other ∷ entries_from factor (suc first) columns))
+        (entry_for factor place column)
     by true vanishes = absurd (let wrong : true ≡ false = sym vanishes ∙ ap (λ c. is_zero (factor c)) same ∙ not_zero in cc)
     by false other_zero = (0, omega arith, this)
 has_entry factor first (other ∷ columns) (suc k) place column at not_zero is =
     by (is_zero (factor other)) (has_entry factor (suc first) columns k place column at not_zero (omega arith))
   where
-    by : (b : Bool) → Contains (entries_from factor (suc first) columns) (record { place = place; column = column; factor = factor column })
-        → Contains (cond b (entries_from factor (suc first) columns) (record { place = first; column = other; factor = factor other } ∷ entries_from factor (suc first) columns))
-        (record { place = place; column = column; factor = factor column })
+    by : (b : Bool) → Contains (entries_from factor (suc first) columns) (entry_for factor place column)
+        → Contains (cond b (entries_from factor (suc first) columns) (entry_for factor first other ∷ entries_from factor (suc first) columns))
+        (entry_for factor place column)
     by true has = has
     by false has = later_member _ _ _ has
 
@@ -183,7 +186,7 @@ link_is plant factor columns link is =
         → k ≢ link.outgoing → k ≢ link.incoming → (b : Bool) → is_zero (factor column) ≡ b → factor column ≡ pos 0
     by pair k column at not_out not_in true vanishes = zero_from (factor column) vanishes
     by pair k column at not_out not_in false not_zero =
-        let this : Entry = record { place = k; column = column; factor = factor column } in
+        let this : Entry = entry_for factor k column in
         let there = place_of_member (entries_from factor 0 columns) this (has_entry factor 0 columns k k column at not_zero (omega arith)) in
         elim (pair.only there.0 this there.1) [
           | inl same ↦ absurd (not_out (ap (λ (e : Entry). e.place) same ∙ pair.outgoing_place))

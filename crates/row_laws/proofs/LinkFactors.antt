@@ -1,5 +1,5 @@
 -- The factors of rows at the column of an edge.
-use Rattle.std.proofs.Common.{◌≡◌, ◌≢◌, ℕ, ◌*◌, Bool, true, false, cond, List, [], ◌∷◌, ◌++◌, map, filter, flat_map, nat_eq, get_or, slice_get, ℤ, pos, negsuc, ◌+ℤ◌, ◌-ℤ◌, ◌*ℤ◌, ◌≤ℤ◌, All, Option, Some, None, refl, ap, ◌∙◌, sym, arith}
+use Rattle.std.proofs.Common.{◌≡◌, ◌≢◌, ℕ, ◌*◌, Bool, true, false, List, [], ◌∷◌, ◌++◌, map, filter, flat_map, nat_eq, get_or, slice_get, ℤ, pos, negsuc, ◌+ℤ◌, ◌-ℤ◌, ◌*ℤ◌, ◌≤ℤ◌, All, Option, Some, None, refl, arith}
 use Rattle.std.specs.List.{list_any, range_with_len}
 use Rattle.std.specs.Option.{option_map_or}
 use Rattle.std.proofs.lemmas.Bool.{cond_both, ne_eqb}
@@ -16,7 +16,7 @@ use Rattle.wcet_atomic_blocks.specs.Loops.{loop_instances}
 use Rattle.wcet_atomic_blocks.specs.Plants.{PlantData}
 use Rattle.abstract_sched.specs.declared.states.AbsState.{AbsState}
 use Rattle.row_build.specs.Columns as words
-use Rattle.row_build.specs.Columns.{Along, Goes, columns, positions, owner_of, begun_blocks}
+use Rattle.row_build.specs.Columns.{Along, Goes, positions, owner_of, begun_blocks}
 use Rattle.row_build.specs.Families.{Row, counted, one_start, leaves, leaving, leads_to, passes, stands_by_start, stands_into, standing_rows, standing_at, is_owned, stands_once, standing, begins_by_move, begins_into, beginning_rows, beginning_at, beginning, is_listed_edge, bound_of, goes_round, going_round, is_ever_live, arrives_apart, arrives_once, arrives, arriving}
 use Rattle.row_build.specs.Links.{is_back}
 use Rattle.row_laws.proofs.LinkLists.{All-map_each, All-two, All-flat_map, none_passes}

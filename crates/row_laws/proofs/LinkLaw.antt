@@ -1,11 +1,11 @@
 -- The links of a task's rows join its columns to chains.
-use Rattle.std.proofs.Common.{◌≡◌, ℕ, ◌+◌, ◌<◌, true, false, List, length, nat_eq, slice_get, Option, Some, None, option_map, refl, sym, ◌∙◌, ap, arith}
+use Rattle.std.proofs.Common.{◌≡◌, ℕ, ◌<◌, true, false, List, length, nat_eq, slice_get, Option, Some, None, option_map, sym, ◌∙◌, ap, arith}
 use Rattle.std.specs.Option.{option_map_or}
 use Rattle.std.proofs.lemmas.Bool.{eqb-true}
 use Rattle.std.proofs.lemmas.Option.{same_Some}
 use Rattle.row_squeeze.specs.declared.Link.{Link}
 use Rattle.row_squeeze.specs.Links.{HasLink}
-use Rattle.wcet_atomic_blocks.specs.Plants.{PlantData, IsPlant}
+use Rattle.wcet_atomic_blocks.specs.Plants.{PlantData}
 use Rattle.wcet_atomic_blocks.proofs.EveryNode.{every_node_lies}
 use Rattle.abstract_sched.specs.declared.states.AbsState.{AbsState}
 use Rattle.row_build.specs.Columns.{Along, Column, Goes, columns}
@@ -16,7 +16,7 @@ use Rattle.row_laws.proofs.LinkChains.{node_before, limit_for_all}
 use Rattle.row_laws.proofs.LinkFactors.{minus_one_from}
 use Rattle.row_laws.proofs.LinkNodes.{IsLinkAt, link_at_is, origin, origin_at}
 use Rattle.row_laws.proofs.LinkRanks.{nodes_before, IsEnough, fewer_before}
-use Rattle.row_laws.proofs.LinkRows.{IsRowOf, IsLinked, linked, links_counted, leaves_node, link_row}
+use Rattle.row_laws.proofs.LinkRows.{IsRowOf, linked, links_counted, leaves_node, link_row}
 
 same_edge : (columns : List Column) (k j : ℕ) (a b : Along) → slice_get columns k ≡ Some (Goes a) → slice_get columns j ≡ Some (Goes b) → k ≡ j → a ≡ b
 same_edge columns k j a b at at' same =

@@ -46,12 +46,14 @@ pub one_limit : (before : ℕ → Option ℕ) (count : ℕ) → ((node : ℕ) �
 one_limit before zero each = (0, λ node within. absurd (omega arith))
 one_limit before (suc count) each =
     let others = one_limit before count (λ node within. each node (omega arith)) in
-    let last = each count (omega arith) in
-    (others.0 + last.0, λ node within. elim (cases_lt node count) [
-      | inl below ↦ is_enough_above before others.0 (others.0 + last.0) node (omega arith) (others.1 node below)
-      | inr above ↦ let same : count ≡ node = omega arith in
-          subst (IsEnough before (others.0 + last.0)) same (is_enough_above before last.0 (others.0 + last.0) count (omega arith) last.1)
-    ])
+    let last = each count (omega arith) in (
+      others.0 + last.0,
+      λ node within. elim (cases_lt node count) [
+        | inl below ↦ is_enough_above before others.0 (others.0 + last.0) node (omega arith) (others.1 node below)
+        | inr above ↦ let same : count ≡ node = omega arith in
+            subst (IsEnough before (others.0 + last.0)) same (is_enough_above before last.0 (others.0 + last.0) count (omega arith) last.1)
+      ],
+    )
 
 -- the node before has fewer before it
 pub fewer_before : (before : ℕ → Option ℕ) (limit node other : ℕ) → IsEnough before limit node → before node ≡ Some other

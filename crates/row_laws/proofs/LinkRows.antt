@@ -1,13 +1,13 @@
 -- The rows that have links, and what their entries are.
-use Rattle.std.proofs.Common.{◌≡◌, ◌≢◌, ℕ, suc, zero, ◌+◌, ◌<◌, List, [], ◌∷◌, ◌++◌, map, length, get_or, slice_get, nat_eq, ℤ, pos, negsuc, ◌≤ℤ◌, Option, Some, None, inl, inr, refl, sym, ◌∙◌, ap, subst, arith}
+use Rattle.std.proofs.Common.{◌≡◌, ◌≢◌, ℕ, suc, zero, ◌+◌, ◌<◌, List, [], ◌∷◌, ◌++◌, map, length, get_or, slice_get, nat_eq, ℤ, pos, ◌≤ℤ◌, Option, Some, None, refl, sym, ◌∙◌, ap, subst, arith}
 use Rattle.std.specs.List.{range_with_len}
 use Rattle.std.specs.Option.{option_map_or}
-use Rattle.std.proofs.lemmas.Bool.{cases_eq, eqb-true}
+use Rattle.std.proofs.lemmas.Bool.{eqb-true}
 use Rattle.std.proofs.lemmas.Int.{ints}
 use Rattle.std.proofs.lemmas.List.{length-append, length-map}
 use Rattle.std.proofs.lemmas.List.FromFn.{length-map-range_with_len}
 use Rattle.std.proofs.lemmas.Option.{none-some, slice_get_within}
-use Rattle.whole_rows.specs.Rows.{entry_at, cost_at, right_at}
+use Rattle.whole_rows.specs.Rows.{entry_at, cost_at}
 use Rattle.row_squeeze.specs.declared.Link.{Link}
 use Rattle.row_squeeze.specs.Links.{HasLink, IsLinkRow}
 use Rattle.wcet_atomic_blocks.specs.Plants.{PlantData}
@@ -69,7 +69,11 @@ linked plant states task row link has =
     (λ at. absurd (has_none (first_rows plant states task) row link at))
     (λ j place at. append_cases of_nodes (without_links (last_rows plant states task)) j (Some link) at
     (λ here. let there = range_place at_node 0 (length plant.flow.nodes) j (Some link) here in
-    record { node = j; row_is = record { within = there.0; place = place_is j place }; linked = ap at_node (sym (zero_plus j)) ∙ there.1 })
+    record {
+      node = j;
+      row_is = record { within = there.0; place = place_is j place };
+      linked = ap at_node (sym (zero_plus j)) ∙ there.1;
+    })
     (λ i later there. absurd (has_none (last_rows plant states task) i link there)))
   where
     at_node : ℕ → Option Link
@@ -139,7 +143,8 @@ other_row plant states task row node other link row_is is apart =
         (λ j place later. append_cases (passing plant) (last_rows plant states task) j r later
         (λ here. let there = range_place (passes plant) 0 (length plant.flow.nodes) j r here in
         subst (Allows is.of.outgoing) there.1 (other_nodes_allow plant (0 + j) is.of.outgoing (elsewhere j place)))
-        (λ i place' last. at_slice (Allows is.of.outgoing) (last_rows plant states task) i r (last_rows_allow plant states task is.of.outgoing is.of.not_back) last))
+        (λ i behind last. at_slice (Allows is.of.outgoing) (last_rows plant states task) i r
+        (last_rows_allow plant states task is.of.outgoing is.of.not_back) last))
 
     by : (o : Option Row) → slice_get (rows plant states task) other ≡ o
         → option_map_or (factor_at (columns plant states task) link.outgoing) o (pos 0) ≤ℤ pos 0
@@ -157,7 +162,7 @@ link_row plant states task row node link row_is is = record {
       ∙ none_at column not_out not_in (slice_get (columns plant states task) column) refl;
   right_side = get_or-map (λ (r : Row). pos r.right) (rows plant states task) row (pos 0)
       ∙ ap (λ o. option_map_or (λ (r : Row). pos r.right) o (pos 0)) (row_there plant states task row node row_is);
-  outgoing_cost = rw (cost_is) (omega (arith, ints));
+  outgoing_cost = rw cost_is (omega (arith, ints));
   other_rows = λ other apart. other_row plant states task row node other link row_is is apart;
 }
   where
