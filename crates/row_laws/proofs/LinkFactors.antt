@@ -1,5 +1,5 @@
 -- The factors of rows at the column of an edge.
-use Rattle.std.proofs.Common.{◌≡◌, ◌≢◌, ℕ, Bool, true, false, List, [], ◌∷◌, ◌++◌, map, filter, flat_map, nat_eq, get_or, slice_get, ℤ, pos, negsuc, ◌+ℤ◌, ◌-ℤ◌, ◌*ℤ◌, ◌≤ℤ◌, All, Option, Some, None, refl, arith}
+use Rattle.std.proofs.Common.{◌≡◌, ◌≢◌, ℕ, Bool, true, false, List, [], ◌∷◌, ◌++◌, map, filter, flat_map, get_or, slice_get, ℤ, pos, negsuc, ◌+ℤ◌, ◌-ℤ◌, ◌*ℤ◌, ◌≤ℤ◌, All, Option, Some, None, refl, arith}
 use Rattle.std.specs.List.{list_any, range_with_len}
 use Rattle.std.specs.Option.{option_map_or}
 use Rattle.std.proofs.lemmas.Bool.{cond_both, ne_eqb}
@@ -26,10 +26,6 @@ use Rattle.row_laws.proofs.LinkLists.{All-map_each, All-two, All-flat_map, none_
 -- the factor of an edge that leaves the node, or leads to it
 abbrev pub edge_factor : Bool → Bool → ℤ
 edge_factor leaves leads = (counted leaves +ℤ pos 0) -ℤ (counted leads +ℤ (pos 0 +ℤ pos 0))
-
-pub passes_goes : (plant : PlantData) (node : ℕ) (along : Along)
-    → (passes plant node).factor (Goes along) ≡ edge_factor (nat_eq along.node node) (leads_to node along)
-passes_goes plant node along = refl
 
 pub one_from : (leaves leads : Bool) → edge_factor leaves leads ≡ pos 1 → (leaves ≡ true) × (leads ≡ false)
 one_from true true is = absurd (omega (arith, ints))
