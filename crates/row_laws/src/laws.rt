@@ -1,0 +1,10 @@
+//! What holds of the rows of every task. Each function is empty: its contract is a theorem over the
+//! definitions.
+
+ghost use Rattle.row_laws.specs.Laws.{RowsAreSmall};
+
+/// The sizes of each column's entries and of the right sides have sums below 2^40, and each cost is
+/// from 0 to 2^29.
+pub fn rows_are_small()
+    ensures { RowsAreSmall }
+{}
