@@ -4,7 +4,7 @@ use Rattle.std.specs.Prelude.{filter, filter_map, sum_by, ◌||◌}
 use Rattle.std.specs.List.{cons_option, count_by, flat_map, list_any, range_with_len}
 use Rattle.std.specs.Option.{option_map_or}
 use Rattle.std.proofs.lemmas.Bool.{false_from_ne_true}
-use Rattle.std.proofs.lemmas.List.Folds.{fold-map}
+use Rattle.std.proofs.lemmas.List.Folds.{Any-from_list_any, fold-map}
 use Rattle.std.proofs.lemmas.List.Sums.{sum_by-append, sum_by-cons, sum_by-le}
 
 -- once where a test is passed
@@ -122,3 +122,23 @@ one-any p (x ∷ xs) =
       | true ↦ λ is. omega arith
       | false ↦ λ is. omega arith
     ] whole
+
+-- ---- Members that pass
+
+pub any-passes : {A : Type 0} (p : A → Bool) (xs : List A) → list_any p xs ≡ true → (x : A) × (p x ≡ true)
+any-passes p xs some = let found = Any-from_list_any p xs some in (found.1, found.4)
+
+-- one of the kept members passes another test
+pub kept-passes : {A : Type 0} (p test : A → Bool) (xs : List A) → list_any test (filter p xs) ≡ true → (x : A) × (p x ≡ true) × (test x ≡ true)
+kept-passes p test [] some = absurd cc
+kept-passes {A} p test (x ∷ xs) some = by (p x) refl some (kept-passes p test xs)
+  where
+    or_later : (b : Bool) → test x ≡ b → p x ≡ true → (b || list_any test (filter p xs)) ≡ true
+        → (list_any test (filter p xs) ≡ true → (y : A) × (p y ≡ true) × (test y ≡ true)) → (y : A) × (p y ≡ true) × (test y ≡ true)
+    or_later true is passes some later = (x, passes, is)
+    or_later false is passes some later = later some
+
+    by : (b : Bool) → p x ≡ b → list_any test (cond b (x ∷ filter p xs) (filter p xs)) ≡ true
+        → (list_any test (filter p xs) ≡ true → (y : A) × (p y ≡ true) × (test y ≡ true)) → (y : A) × (p y ≡ true) × (test y ≡ true)
+    by true passes some later = or_later (test x) refl passes some later
+    by false passes some later = later some
