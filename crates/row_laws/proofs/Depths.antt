@@ -26,14 +26,14 @@ service_stays node service false e shallow = rw e shallow
 
 edges_stay : (service : Option ServiceAt) (node : Node) (turn : Turn) → calls_too_deep node turn ≡ false → length node.sites ≤ 16
     → AllByRecursion StaysShallow (edges_by service node turn)
-edges_stay service node Onward open shallow = (shallow, tt)
-edges_stay service node (Branching target) open shallow = (shallow, (shallow, tt))
-edges_stay service node (Jumping target) open shallow = (shallow, tt)
-edges_stay service node (Calling target) open shallow =
-    let fewer = leb-false 16 (length node.sites) open in
+edges_stay service node Onward bounded shallow = (shallow, tt)
+edges_stay service node (Branching target) bounded shallow = (shallow, (shallow, tt))
+edges_stay service node (Jumping target) bounded shallow = (shallow, tt)
+edges_stay service node (Calling target) bounded shallow =
+    let fewer = leb-false 16 (length node.sites) bounded in
     let count = length-append node.sites (node.address ∷ []) in
     (omega arith, tt)
-edges_stay service node Returning open shallow = go (slice_get node.sites (length node.sites - 1)) refl
+edges_stay service node Returning bounded shallow = go (slice_get node.sites (length node.sites - 1)) refl
   where
     go : (o : Option ℕ) → slice_get node.sites (length node.sites - 1) ≡ o → AllByRecursion StaysShallow (edges_by service node Returning)
     go None e = rw e tt
@@ -41,10 +41,10 @@ edges_stay service node Returning open shallow = go (slice_get node.sites (lengt
         let count = length-take-le (length node.sites - 1) node.sites (omega arith) in
         let fewer : length (take (length node.sites - 1) node.sites) ≤ 16 = omega arith in
         rw e (fewer, tt)
-edges_stay None node Serving open shallow = tt
-edges_stay (Some service) node Serving open shallow = (service_stays node service (ends_by service.number) refl shallow, tt)
-edges_stay service node Indirect open shallow = tt
-edges_stay service node Breaking open shallow = tt
+edges_stay None node Serving bounded shallow = tt
+edges_stay (Some service) node Serving bounded shallow = (service_stays node service (ends_by service.number) refl shallow, tt)
+edges_stay service node Indirect bounded shallow = tt
+edges_stay service node Breaking bounded shallow = tt
 
 edges_stay_at : (program : Program) (node : Node) (turn : Option Turn) → turn_at program.code node.address ≡ turn → fault_of program node ≡ None
     → length node.sites ≤ 16 → All StaysShallow (edges_of program.code node)

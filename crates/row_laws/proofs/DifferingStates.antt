@@ -1,6 +1,6 @@
 -- Among states that differ one at most is the same as another one.
 use Rattle.std.proofs.Common.{◌≡◌, ℕ, ◌+◌, ◌≤◌, Bool, true, false, List, [], ◌∷◌, refl, sym, ap, ◌∙◌, subst, arith}
-use Rattle.std.specs.Prelude.{sum_by}
+use Rattle.std.specs.Prelude.{not, sum_by}
 use Rattle.std.specs.List.{count_by, list_any}
 use Rattle.std.proofs.lemmas.Bool.{and_parts, not-true, or_parts}
 use Rattle.std.proofs.lemmas.List.Sums.{sum_by-cons}
@@ -20,10 +20,10 @@ none-same state (other ∷ states) none =
 
 pub same-once : (states : List AbsState) (state : AbsState) → differ same_state states ≡ true → count_by (λ s. same_state s state) states ≤ 1
 same-once [] state apart = omega arith
-same-once (first ∷ states) state apart =
-    by (same_state first state) refl (same-once states state parts.1)
+same-once (first ∷ states) state apart = by (same_state first state) refl (same-once states state parts.1)
   where
-    parts = and_parts _ (differ same_state states) apart
+    parts : (not (list_any (same_state first) states) ≡ true) × (differ same_state states ≡ true)
+    parts = and_parts (not (list_any (same_state first) states)) (differ same_state states) apart
 
     whole : count_by (λ s. same_state s state) (first ∷ states) ≡ one (same_state first state) + count_by (λ s. same_state s state) states
     whole = sum_by-cons (λ s. one (same_state s state)) first states

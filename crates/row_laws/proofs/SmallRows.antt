@@ -1,8 +1,8 @@
 -- The rows of a task are small: each family adds little to a column and to the right sides.
-use Rattle.std.proofs.Common.{◌≡◌, ℕ, ◌+◌, ◌*◌, ◌^◌, ◌<◌, ◌≤◌, true, List, [], ◌∷◌, ◌++◌, length, map, get_or, sym, ap, ◌∙◌, ℤ, pos, ◌≤ℤ◌, length-map, arith}
+use Rattle.std.proofs.Common.{◌≡◌, ℕ, ◌+◌, ◌*◌, ◌^◌, ◌<◌, ◌≤◌, true, List, [], ◌∷◌, ◌++◌, length, map, get_or, sym, ap, ◌∙◌, ℤ, pos, ◌≤ℤ◌, arith}
 use Rattle.std.specs.Prelude.{All, slice_get, Some, sum_by, unsigned_abs}
 use Rattle.std.proofs.lemmas.Int.{ints}
-use Rattle.std.proofs.lemmas.List.{get_or-map}
+use Rattle.std.proofs.lemmas.List.{get_or-map, length-map}
 use Rattle.std.proofs.lemmas.List.Elements.{All-map}
 use Rattle.std.proofs.lemmas.List.Sums.{sum_by-append, sum_by-cons, sum_by-le-sum_by}
 use Rattle.listed.specs.Lists.{differ}
@@ -36,7 +36,7 @@ few_nodes plant is = is.graph.graph.nodes.few
 few_blocks : (plant : PlantData) → IsPlant plant → length plant.blocks.blocks ≤ 4095
 few_blocks plant is =
     let same = ap length is.blocks.cut.begin in
-    let count = length-map (λ (block : Block). block.begin) plant.blocks.blocks in
+    let count = length-map plant.blocks.blocks (λ (block : Block). block.begin) in
     let few = is.blocks.few in
     omega arith
 
@@ -126,7 +126,7 @@ pub rows_are_small : RowsAreSmall
 rows_are_small plant states task is apart = record {
   columns = λ column within.
       let all = columns plant states task in
-      let count = length-map (λ (c : Column). pos (cost plant c)) all in
+      let count = length-map all (λ (c : Column). pos (cost plant c)) in
       let size = column-size all (families.rows plant states task) column (Stands 0) (omega arith) in
       let most = column-total plant states task (get_or all column (Stands 0)) is apart in
       omega arith;

@@ -187,9 +187,12 @@ edge_strings flow head l along has =
 
     back : Passes flow (loops.is_back head l) (edge_id along.node along.place) → list_any (same_string head) (sources ++ targets) ≡ true
     back p =
-        let parts = and_parts (is_local p.edge.kind) (loops.is_inside head l p.source && same_string head p.target && (p.target.address == l.from)) p.passes in
-        let inside = and_parts (loops.is_inside head l p.source) (same_string head p.target && (p.target.address == l.from)) parts.1 in
-        let same = and_parts (same_string head p.source) (loops.in_range l p.source.address) inside.0 in
+        let local = is_local p.edge.kind in
+        let inside = loops.is_inside head l p.source in
+        let first = and_parts (local && inside && same_string head p.target) (p.target.address == l.from) p.passes in
+        let second = and_parts (local && inside) (same_string head p.target) first.0 in
+        let third = and_parts local inside second.0 in
+        let same = and_parts (same_string head p.source) (loops.in_range l p.source.address) third.1 in
         ap (λ (o : Option Node). list_any (same_string head) (option_to_list o ++ targets)) p.stands
         ∙ or_left (same_string head p.source) (list_any (same_string head) targets) same.0
 
@@ -240,13 +243,12 @@ within_strings head l node lies = by (or_cases (loops.is_inside head l node) (lo
         in_prefixes head node (length node.sites) parts.0 (omega arith)
         (ap (pointwise nat_eq head.sites) (take_all (length node.sites) node.sites (omega arith)) ∙ parts.1)
     by (inr called) =
-        let parts = and_parts (head.context == node.context)
-        (option_map_or (loops.in_range l) (slice_get node.sites (length head.sites)) false && starts_with nat_eq node.sites head.sites) called in
-        let others = and_parts (option_map_or (loops.in_range l) (slice_get node.sites (length head.sites)) false)
-        (starts_with nat_eq node.sites head.sites) parts.1 in
-        let site = some_passes (loops.in_range l) (slice_get node.sites (length head.sites)) others.0 in
+        let site_in = option_map_or (loops.in_range l) (slice_get node.sites (length head.sites)) false in
+        let first = and_parts ((head.context == node.context) && site_in) (starts_with nat_eq node.sites head.sites) called in
+        let second = and_parts (head.context == node.context) site_in first.0 in
+        let site = some_passes (loops.in_range l) (slice_get node.sites (length head.sites)) second.1 in
         let within = slice_get_within node.sites (length head.sites) site.0 site.1 in
-        in_prefixes head node (length head.sites) parts.0 (omega arith) others.1
+        in_prefixes head node (length head.sites) second.0 (omega arith) first.1
 
 pub has_string : (flow : Flow) (blocks : List Block) (head : Node) (l : Loop) (column : Column) → has_column flow blocks head l column ≡ true
     → list_any (same_string head) (strings_of flow blocks column) ≡ true
