@@ -1,5 +1,5 @@
 -- No node has more than 16 open calls.
-use Rattle.std.proofs.Common.{◌≡◌, ℕ, ◌-◌, ◌≤◌, Bool, true, false, List, [], ◌∷◌, length, take, Option, Some, None, refl, subst, length-append, arith}
+use Rattle.std.proofs.Common.{◌≡◌, ℕ, ◌-◌, ◌≤◌, Bool, true, false, [], ◌∷◌, length, take, Option, Some, None, refl, subst, length-append, arith}
 use Rattle.std.specs.Prelude.{◌==◌, All, slice_get, IfSome}
 use Rattle.std.specs.List.{AllByRecursion}
 use Rattle.std.proofs.lemmas.Bool.{and_parts, eqb-true, leb-false}
@@ -20,7 +20,8 @@ use Rattle.wcet_atomic_blocks.proofs.GraphFacts.{at_slice}
 abbrev StaysShallow : Edge Node → Type 0
 StaysShallow edge = IfSome edge.to (λ next. length next.sites ≤ 16)
 
-service_stays : (node : Node) (service : ServiceAt) (ends : Bool) → ends_by service.number ≡ ends → length node.sites ≤ 16 → StaysShallow (service_edge node service)
+service_stays : (node : Node) (service : ServiceAt) (ends : Bool) → ends_by service.number ≡ ends → length node.sites ≤ 16
+    → StaysShallow (service_edge node service)
 service_stays node service true e shallow = rw e tt
 service_stays node service false e shallow = rw e shallow
 

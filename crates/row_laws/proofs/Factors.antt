@@ -1,5 +1,5 @@
 -- How large the factors of the rows are: each word on columns counts a column once or not at all.
-use Rattle.std.proofs.Common.{◌≡◌, ℕ, ◌+◌, ◌≤◌, Bool, true, false, List, ℤ, pos, ◌+ℤ◌, ◌-ℤ◌, refl, arith}
+use Rattle.std.proofs.Common.{◌≡◌, ℕ, ◌+◌, ◌≤◌, Bool, true, false, ℤ, pos, ◌+ℤ◌, ◌-ℤ◌, refl, arith}
 use Rattle.std.specs.Prelude.{not, ◌&&◌, ◌==◌, nat_eq, unsigned_abs}
 use Rattle.osek_kernel.specs.declared.context.Context.{Context}
 use Rattle.osek_kernel.specs.declared.context.Context.TheVariants as contexts
@@ -69,9 +69,6 @@ into-size plant task test column =
     sum-size (starts_that starts column) (moves_that moves column) 1 1 (starts-size starts column) (moves-size moves column)
 
 -- ---- Rows whose factors are at most 5
-
-at_most_five : (n m : ℕ) → m ≤ 5 → n ≤ m → n ≤ 5
-at_most_five n m few small = omega arith
 
 pub passes-size : (plant : PlantData) (column : Column) (node : ℕ) → size_at column (families.passes plant node) ≤ 5
 passes-size plant column node =

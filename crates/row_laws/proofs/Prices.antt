@@ -1,6 +1,6 @@
 -- No column costs much, and no source that is ever live arrives much apart.
-use Rattle.std.proofs.Common.{◌≡◌, ℕ, suc, ◌+◌, ◌-◌, ◌*◌, ◌^◌, ◌<◌, ◌≤◌, Bool, true, false, List, [], ◌∷◌, length, Option, Some, None, refl, sym, ap, ◌∙◌, subst, arith}
-use Rattle.std.specs.Prelude.{not, ◌&&◌, ◌||◌, nat_lt, nat_eq, slice_get, unwrap_or, find, position, is_none, bytes_eq, option_map, option_and_then, All, cond}
+use Rattle.std.proofs.Common.{◌≡◌, ℕ, suc, ◌-◌, ◌^◌, ◌<◌, ◌≤◌, Bool, true, false, List, [], ◌∷◌, length, Option, Some, None, refl, sym, ap, ◌∙◌, subst, arith}
+use Rattle.std.specs.Prelude.{not, ◌||◌, nat_lt, nat_eq, slice_get, unwrap_or, find, position, is_none, bytes_eq, option_map, option_and_then, All, cond}
 use Rattle.std.specs.List.{list_all, list_any}
 use Rattle.std.specs.Option.{option_map_or}
 use Rattle.std.proofs.lemmas.Bool.{lt-ltb, ltb-false, not-true}
@@ -16,7 +16,7 @@ use Rattle.oil_model.specs.declared.system.System.{System}
 use Rattle.osek_kernel.specs.declared.service.Service.{Service}
 use Rattle.osek_kernel.specs.declared.source.Source.{Source}
 use Rattle.osek_kernel.specs.declared.source.Source.TheVariants as sources
-use Rattle.osek_kernel.specs.Sources.{alarm_distance, alarm_modes, is_live, source_at}
+use Rattle.osek_kernel.specs.Sources.{alarm_distance, is_live, source_at}
 use Rattle.timing_file.specs.declared.timing.NamedNumber.{NamedNumber}
 use Rattle.timing_file.specs.declared.timing.Timing.{Timing}
 use Rattle.timing_file.specs.Costs.{insn_cost, service_cost}
@@ -70,7 +70,8 @@ cost-small plant (Moves going) lawful = kernel-small plant going.move.label lawf
 cost-small plant (Goes along) lawful = at (insn_at plant.image (columns.address_of plant along.node))
   where
     at : (found : Option Insn)
-        → option_map_or (λ insn. insn_cost plant.timing (class_of insn) (columns.is_taken along.edge.kind) (columns.address_of plant along.node)) found 0 ≤ 2 ^ 29
+        → option_map_or (λ insn. insn_cost plant.timing (class_of insn) (columns.is_taken along.edge.kind) (columns.address_of plant along.node)) found 0
+        ≤ 2 ^ 29
     at None = omega arith
     at (Some insn) = insn-small plant.timing insn (columns.is_taken along.edge.kind) (columns.address_of plant along.node) lawful
 cost-small plant (Begins block) lawful = omega arith

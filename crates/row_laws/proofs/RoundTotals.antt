@@ -1,5 +1,5 @@
 -- The sum over the rows of loops: few loop instances have a column, each in few loops.
-use Rattle.std.proofs.Common.{◌≡◌, ℕ, ◌+◌, ◌*◌, ◌^◌, ◌≤◌, Bool, true, false, cond, List, [], ◌∷◌, length, Option, Some, None, refl, sym, ap, ◌∙◌, ℤ, pos, ◌+ℤ◌, ◌-ℤ◌, ◌*ℤ◌, arith}
+use Rattle.std.proofs.Common.{◌≡◌, ℕ, ◌+◌, ◌*◌, ◌^◌, ◌≤◌, Bool, true, false, cond, List, [], length, Option, Some, None, refl, ap, ℤ, pos, ◌+ℤ◌, ◌-ℤ◌, ◌*ℤ◌, arith}
 use Rattle.std.specs.Prelude.{◌&&◌, ◌||◌, nat_lt, slice_get, sum_by, option_and_then, unsigned_abs}
 use Rattle.std.specs.List.{count_by, list_any, range_with_len}
 use Rattle.std.specs.Option.{option_map_or}
@@ -16,12 +16,19 @@ use Rattle.wcet_atomic_blocks.specs.Plants.{PlantData}
 use Rattle.wcet_atomic_blocks.proofs.GraphFacts.{at_slice}
 use Rattle.row_build.specs.Columns.{Column, Starts, Moves, Goes, Begins, Stands}
 use Rattle.row_build.specs.Families.{Row, bound_of, counted, entered, goes_round, going_round, is_listed, is_listed_edge}
-use Rattle.row_laws.proofs.Amounts.{difference-size, sum-size, times-size}
+use Rattle.row_laws.proofs.Amounts.{difference-size, times-size}
 use Rattle.row_laws.proofs.Factors.{counted-size, size_at}
 use Rattle.row_laws.proofs.Strings.{few_strings, has_column, has_string, heads, heads-once, strings_of}
 use Rattle.row_laws.proofs.Totals.{one, one-any, sum-each, sum-filter_map, sum-flat, sum-map, sum-swap, sum-times}
 
 -- ---- One row
+
+abbrev size_of : PlantData → Column → LoopInstance → ℕ
+size_of plant column instance = size_at column (goes_round plant instance)
+
+-- one lap, and the most laps that a loop's bound allows
+abbrev lap : ℕ
+lap = 2 ^ 20 + 1
 
 bound-small : (plant : PlantData) (declared : ℕ) → AreLoops plant.timing.loops → bound_of plant declared ≤ 2 ^ 20
 bound-small plant declared are = at (slice_get plant.timing.loops declared) refl
@@ -32,13 +39,13 @@ bound-small plant declared are = at (slice_get plant.timing.loops declared) refl
 
 -- once for a back edge, and the bound where the loop is entered
 lap-size : (a b : Bool) (bound : ℕ) (x : ℤ) → bound ≤ 2 ^ 20 → unsigned_abs x ≤ one b
-    → unsigned_abs (counted a -ℤ pos bound *ℤ x) ≤ one (a || b) * (2 ^ 20 + 1)
+    → unsigned_abs (counted a -ℤ pos bound *ℤ x) ≤ one (a || b) * lap
 lap-size a b bound x few small =
     let all = difference-size (counted a) (pos bound *ℤ x) (one a) (2 ^ 20 * one b) (counted-size a) (times-size bound x (2 ^ 20) (one b) few small) in
     let most = by a b in
     omega arith
   where
-    by : (a b : Bool) → one a + 2 ^ 20 * one b ≤ one (a || b) * (2 ^ 20 + 1)
+    by : (a b : Bool) → one a + 2 ^ 20 * one b ≤ one (a || b) * lap
     by true true = omega arith
     by true false = omega arith
     by false true = omega arith
@@ -58,7 +65,7 @@ third-size false = omega arith
 
 round-size : (plant : PlantData) (head : Node) (declared : ℕ) (l : Loop) (column : Column) → AreLoops plant.timing.loops
     → size_at column (goes_round plant (instance_of plant.flow plant.blocks.blocks head declared l))
-    ≤ one (has_column plant.flow plant.blocks.blocks head l column) * (2 ^ 20 + 1)
+    ≤ one (has_column plant.flow plant.blocks.blocks head l column) * lap
 round-size plant head declared l (Starts start) are = lap-size false false (bound_of plant declared) (pos 0) (bound-small plant declared are) (omega arith)
 round-size plant head declared l (Moves going) are = lap-size false false (bound_of plant declared) (pos 0) (bound-small plant declared are) (omega arith)
 round-size plant head declared l (Goes along) are =
@@ -80,11 +87,8 @@ implied : (a b : Bool) → (a ≡ true → b ≡ true) → one a ≤ one b
 implied true b then = let is = ap one (then refl) in omega arith
 implied false b then = omega arith
 
-abbrev lap : ℕ
-lap = 2 ^ 20 + 1
-
 instance-size : (plant : PlantData) (head : Node) (column : Column) (declared : ℕ) → AreLoops plant.timing.loops
-    → option_map_or (λ instance. size_at column (goes_round plant instance))
+    → option_map_or (size_of plant column)
     (option_and_then (loops.instance_at plant.flow plant.blocks.blocks head declared) (slice_get plant.timing.loops declared)) 0
     ≤ one (list_any (same_string head) (strings_of plant.flow plant.blocks.blocks column)) * lap
 instance-size plant head column declared are = at (slice_get plant.timing.loops declared)
@@ -93,7 +97,7 @@ instance-size plant head column declared are = at (slice_get plant.timing.loops 
     strings = strings_of plant.flow plant.blocks.blocks column
 
     with_back : (l : Loop) (back : Bool)
-        → option_map_or (λ instance. size_at column (goes_round plant instance)) (cond back (Some (instance_of plant.flow plant.blocks.blocks head declared l)) None) 0
+        → option_map_or (size_of plant column) (cond back (Some (instance_of plant.flow plant.blocks.blocks head declared l)) None) 0
         ≤ one (list_any (same_string head) strings) * lap
     with_back l true =
         let size = round-size plant head declared l column are in
@@ -103,20 +107,19 @@ instance-size plant head column declared are = at (slice_get plant.timing.loops 
     with_back l false = omega arith
 
     at : (found : Option Loop)
-        → option_map_or (λ instance. size_at column (goes_round plant instance)) (option_and_then (loops.instance_at plant.flow plant.blocks.blocks head declared) found) 0
+        → option_map_or (size_of plant column) (option_and_then (loops.instance_at plant.flow plant.blocks.blocks head declared) found) 0
         ≤ one (list_any (same_string head) strings) * lap
     at None = omega arith
     at (Some l) = with_back l (nat_lt 0 (length (loops.passing_edges plant.flow (loops.is_back head l))))
 
 head-total : (plant : PlantData) (head : Node) (column : Column) → AreLoops plant.timing.loops
-    → sum_by (λ instance. size_at column (goes_round plant instance)) (instances_at plant.flow plant.blocks.blocks plant.timing.loops head)
+    → sum_by (size_of plant column) (instances_at plant.flow plant.blocks.blocks plant.timing.loops head)
     ≤ 256 * (one (list_any (same_string head) (strings_of plant.flow plant.blocks.blocks column)) * lap)
 head-total plant head column are =
-    let size = (λ (instance : LoopInstance). size_at column (goes_round plant instance)) in
     let of = (λ (declared : ℕ). option_and_then (loops.instance_at plant.flow plant.blocks.blocks head declared) (slice_get plant.timing.loops declared)) in
     let most = one (list_any (same_string head) (strings_of plant.flow plant.blocks.blocks column)) * lap in
-    let whole = sum-filter_map size of (range_with_len 0 (length plant.timing.loops)) in
-    let each = sum-each (λ declared. option_map_or size (of declared) 0) most (range_with_len 0 (length plant.timing.loops))
+    let whole = sum-filter_map (size_of plant column) of (range_with_len 0 (length plant.timing.loops)) in
+    let each = sum-each (λ declared. option_map_or (size_of plant column) (of declared) 0) most (range_with_len 0 (length plant.timing.loops))
     (λ declared. instance-size plant head column declared are) in
     let count : length (range_with_len 0 (length plant.timing.loops)) ≤ 256 =
     (let few = are.few in let same = length-range_with_len 0 (length plant.timing.loops) in omega arith) in
@@ -126,18 +129,15 @@ head-total plant head column are =
 -- ---- The rows of all heads
 
 number-total : (plant : PlantData) (column : Column) (number : ℕ) → AreLoops plant.timing.loops
-    → sum_by (λ instance. size_at column (goes_round plant instance)) (instances_from plant.flow plant.blocks.blocks plant.timing.loops number)
+    → sum_by (size_of plant column) (instances_from plant.flow plant.blocks.blocks plant.timing.loops number)
     ≤ count_by (λ key. heads plant.flow key number) (strings_of plant.flow plant.blocks.blocks column) * (256 * lap)
-number-total plant column number are = at (slice_get plant.flow.nodes number) refl
+number-total plant column number are = at (slice_get plant.flow.nodes number)
   where
     strings : List Node
     strings = strings_of plant.flow plant.blocks.blocks column
 
-    size : LoopInstance → ℕ
-    size instance = size_at column (goes_round plant instance)
-
     of_head : (node : Node) (first : Bool)
-        → sum_by (λ instance. size_at column (goes_round plant instance)) (cond first (instances_at plant.flow plant.blocks.blocks plant.timing.loops node) [])
+        → sum_by (size_of plant column) (cond first (instances_at plant.flow plant.blocks.blocks plant.timing.loops node) [])
         ≤ count_by (λ key. first && same_string node key) strings * (256 * lap)
     of_head node true =
         let all = head-total plant node column are in
@@ -145,12 +145,12 @@ number-total plant column number are = at (slice_get plant.flow.nodes number) re
         omega arith
     of_head node false = omega arith
 
-    at : (found : Option Node) → slice_get plant.flow.nodes number ≡ found
-        → sum_by (λ instance. size_at column (goes_round plant instance)) (option_map_or
+    at : (found : Option Node)
+        → sum_by (size_of plant column) (option_map_or
         (λ node. cond (is_first plant.flow number node) (instances_at plant.flow plant.blocks.blocks plant.timing.loops node) []) found [])
         ≤ count_by (λ key. option_map_or (λ node. is_first plant.flow number node && same_string node key) found false) strings * (256 * lap)
-    at None there = omega arith
-    at (Some node) there = of_head node (is_first plant.flow number node)
+    at None = omega arith
+    at (Some node) = of_head node (is_first plant.flow number node)
 
 pub round-total : (plant : PlantData) (column : Column) → AreLoops plant.timing.loops
     → ((number : ℕ) (node : Node) → slice_get plant.flow.nodes number ≡ Some node → length node.sites ≤ 16)
@@ -158,12 +158,12 @@ pub round-total : (plant : PlantData) (column : Column) → AreLoops plant.timin
 round-total plant column are shallow =
     let strings = strings_of plant.flow plant.blocks.blocks column in
     let numbers = range_with_len 0 (length plant.flow.nodes) in
-    let size = (λ (instance : LoopInstance). size_at column (goes_round plant instance)) in
     let from = instances_from plant.flow plant.blocks.blocks plant.timing.loops in
     let keyed = (λ (number : ℕ). count_by (λ key. heads plant.flow key number) strings) in
     let rows = sum-map (size_at column) (goes_round plant) (loop_instances plant.flow plant.blocks.blocks plant.timing.loops) in
-    let parts = sum-flat size from numbers in
-    let each = sum_by-le-sum_by (λ number. sum_by size (from number)) (λ number. keyed number * (256 * lap)) numbers (λ number. number-total plant column number are) in
+    let parts = sum-flat (size_of plant column) from numbers in
+    let each = sum_by-le-sum_by (λ number. sum_by (size_of plant column) (from number)) (λ number. keyed number * (256 * lap)) numbers
+    (λ number. number-total plant column number are) in
     let product = sum-times keyed (256 * lap) numbers in
     let swapped = sum-swap (λ (number : ℕ) (key : Node). one (heads plant.flow key number)) numbers strings in
     let once = sum-each (λ key. count_by (heads plant.flow key) numbers) 1 strings (λ key. heads-once plant.flow key (length plant.flow.nodes)) in

@@ -1,6 +1,6 @@
 -- The rows of a task are small: each family adds little to a column and to the right sides.
-use Rattle.std.proofs.Common.{◌≡◌, ℕ, ◌+◌, ◌*◌, ◌^◌, ◌<◌, ◌≤◌, true, List, [], ◌∷◌, ◌++◌, length, map, get_or, sym, ap, ◌∙◌, ℤ, pos, ◌≤ℤ◌, arith}
-use Rattle.std.specs.Prelude.{All, slice_get, Some, sum_by, unsigned_abs}
+use Rattle.std.proofs.Common.{◌≡◌, ℕ, ◌+◌, ◌^◌, ◌<◌, ◌≤◌, true, List, ◌∷◌, ◌++◌, length, map, get_or, ap, ℤ, pos, ◌≤ℤ◌, arith}
+use Rattle.std.specs.Prelude.{slice_get, Some, sum_by, unsigned_abs}
 use Rattle.std.proofs.lemmas.Int.{ints}
 use Rattle.std.proofs.lemmas.List.{get_or-map, length-map}
 use Rattle.std.proofs.lemmas.List.Elements.{All-map}
@@ -92,7 +92,8 @@ column-total plant states task column is apart =
     let seventh = arriving-total plant f (2 ^ 33) (λ source live. arrives-size plant column source is live) in
     omega arith
 
-right-total : (plant : PlantData) (states : List AbsState) (task : ℕ) → IsPlant plant → sum_by (λ (row : Row). row.right) (families.rows plant states task) < 2 ^ 40
+right-total : (plant : PlantData) (states : List AbsState) (task : ℕ) → IsPlant plant
+    → sum_by (λ (row : Row). row.right) (families.rows plant states task) < 2 ^ 40
 right-total plant states task is =
     let f = (λ (row : Row). row.right) in
     let all = all_families plant states task f in

@@ -1,18 +1,17 @@
 -- Which strings of open calls have a column: a loop instance that has the column has one of these strings, and each
 -- string has one first node.
-use Rattle.std.proofs.Common.{◌≡◌, ℕ, zero, suc, ◌+◌, ◌<◌, ◌≤◌, Bool, true, false, List, [], ◌∷◌, ◌++◌, length, map, take, get_or, Option, Some, None, inl, inr, refl, sym, ap, ◌∙◌, length-append, arith}
-use Rattle.std.specs.Prelude.{not, ◌&&◌, ◌||◌, ◌==◌, ◌⊎◌, nat_eq, filter, slice_get, option_and_then, option_to_list}
+use Rattle.std.proofs.Common.{◌≡◌, ℕ, suc, ◌<◌, ◌≤◌, Bool, true, false, List, [], ◌++◌, length, map, take, get_or, Option, Some, None, inl, inr, refl, sym, ap, ◌∙◌, length-append, arith}
+use Rattle.std.specs.Prelude.{◌&&◌, ◌||◌, ◌==◌, ◌⊎◌, nat_eq, filter, slice_get, option_and_then, option_to_list}
 use Rattle.std.specs.Cmp.{IsEquivalence}
 use Rattle.std.specs.Cmp.Lexicographic.{pointwise}
 use Rattle.std.specs.List.{count_by, flat_map, list_any, range_with_len, starts_with}
 use Rattle.std.specs.Option.{option_map_or}
-use Rattle.std.proofs.lemmas.Bool.{and_from, and_parts, both_ways, eq-eqb, eqb-true, not-true, or_cases, or_left, or_right}
+use Rattle.std.proofs.lemmas.Bool.{and_from, and_parts, both_ways, eqb-true, not-true, or_cases, or_left, or_right}
 use Rattle.std.proofs.lemmas.Cmp.{and_equiv, nat_eq_equiv, nat_list_eq_equiv, on_equiv}
 use Rattle.std.proofs.lemmas.List.{take_all}
 use Rattle.std.proofs.lemmas.List.Folds.{list_any-append, list_any_at}
 use Rattle.std.proofs.lemmas.List.FromFn.{get_or-map-range_with_len, get_or-range_with_len, length-map-range_with_len, length-range_with_len}
 use Rattle.std.proofs.lemmas.Option.{slice_get_within}
-use Rattle.std.proofs.lemmas.Slice.Eq.{bytes_eq-Decides}
 use Rattle.timing_file.specs.declared.timing.Loop.{Loop}
 use Rattle.flow_graph.specs.declared.edge.Edge.{Edge}
 use Rattle.flow_graph.specs.declared.edge.EdgeKind.{EdgeKind}
@@ -173,7 +172,8 @@ has_column flow blocks head l (Stands node) = is_listed (loops.passing_nodes flo
 -- ---- An instance that has a column has one of its strings
 
 edge_strings : (flow : Flow) (head : Node) (l : Loop) (along : Along)
-    → (is_listed_edge (loops.passing_edges flow (loops.is_back head l)) along || is_listed_edge (loops.passing_edges flow (loops.is_entering head l)) along) ≡ true
+    → (is_listed_edge (loops.passing_edges flow (loops.is_back head l)) along
+    || is_listed_edge (loops.passing_edges flow (loops.is_entering head l)) along) ≡ true
     → list_any (same_string head) (option_to_list (slice_get flow.nodes along.node) ++ option_to_list (target_of flow along)) ≡ true
 edge_strings flow head l along has =
     by (or_cases (is_listed_edge (loops.passing_edges flow (loops.is_back head l)) along)
