@@ -65,7 +65,7 @@ judged_three outside reads start oil elf timing Fact x after steps =
     let was_timing = file_ok calls timing timing_limit HasTiming two.1 three.0 three.1 three.2 in
     let told_one : (outside one.1).told ≡ (outside start).told = ((system_honest outside reads oil elf timing []).leaves start (Ok one.0) one.1 one.2).goes_on.kept in
     let told_two : (outside two.1).told ≡ (outside start).told =
-        ((image_honest outside reads oil elf timing []).leaves one.1 (Ok two.0) two.1 two.2).goes_on.kept ∙ told_one in (
+    ((image_honest outside reads oil elf timing []).leaves one.1 (Ok two.0) two.1 two.2).goes_on.kept ∙ told_one in (
       was_oil.bytes,
       first_bytes outside reads start oil oil_limit HasTree tree.0 was_oil,
       (

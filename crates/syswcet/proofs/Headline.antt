@@ -161,7 +161,7 @@ replay outside reads start oil elf timing schedule text after steps =
     let two = then_ok (ScheduleFile calls schedule plant) (λ listed. Judged (HasPlayed plant listed)) one.1 text after one.3 in
     let was = file_ok calls schedule schedule_limit (HasSchedule plant) one.1 two.0 two.1 two.2 in
     let told : (outside one.1).told ≡ (outside start).told =
-        ((plant_honest outside reads oil elf timing (schedule ∷ [])).leaves start (Ok plant) one.1 one.2).goes_on.kept in (
+    ((plant_honest outside reads oil elf timing (schedule ∷ [])).leaves start (Ok plant) one.1 one.2).goes_on.kept in (
       was.bytes,
       later_bytes outside reads start one.1 schedule schedule_limit (HasSchedule plant) two.0 told was,
       of_system (AreBytesOf outside reads start) oil elf timing (DeclarePlant plant) (ReplaysSchedule was.bytes text)

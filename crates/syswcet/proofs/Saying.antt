@@ -35,10 +35,10 @@ pub said_certified : (plant : PlantData) (states : List AbsState) (task : ℕ) (
     → (bound : ℕ) × HasBound text bound × BoundsActivations plant task bound
 said_certified plant states task name text is_text closed are says =
     let within : IsWithinLimits says.bound =
-        bound_within rows_are_small plant states task says.multipliers says.denominator says.bound are.belongs are.once says.optimum in
+    bound_within rows_are_small plant states task says.multipliers says.denominator says.bound are.belongs are.once says.optimum in
     let cert : Cert = optimum_cert task states says.multipliers says.denominator says.bound in
     let lawful : IsLawful (rules_of plant) task cert =
-        optimum_lawful (rules_of plant) task states (rows_of plant states task) says.multipliers says.denominator says.bound closed.lawful says.optimum within in (
+    optimum_lawful (rules_of plant) task states (rows_of plant states task) says.multipliers says.denominator says.bound closed.lawful says.optimum within in (
       unsigned_abs says.bound,
       subst (λ (t : List ℕ). HasBound t (unsigned_abs says.bound)) (sym says.told) (has_bound (rules_of plant) task name cert is_text lawful),
       optimum_bounds plant states task says.multipliers says.denominator says.bound are says.optimum within.0,

@@ -54,9 +54,9 @@ named_so system name task is =
 task_names : (system : System) → IsLawful system → All (λ (t : Task). is_name t.name ≡ true) system.tasks
 task_names system lawful =
     let both : (list_all is_name (map (λ (t : Task). t.name) system.tasks)
-        && list_all is_name (map (λ i. i.name) system.isrs ++ map (λ a. a.name) system.alarms)) ≡ true =
-        sym (list_all-append is_name (map (λ (t : Task). t.name) system.tasks) (map (λ i. i.name) system.isrs ++ map (λ a. a.name) system.alarms))
-        ∙ lawful.names.code in
+    && list_all is_name (map (λ i. i.name) system.isrs ++ map (λ a. a.name) system.alarms)) ≡ true =
+    sym (list_all-append is_name (map (λ (t : Task). t.name) system.tasks) (map (λ i. i.name) system.isrs ++ map (λ a. a.name) system.alarms))
+    ∙ lawful.names.code in
     AllPass-from_list_all (λ (t : Task). is_name t.name) system.tasks
     (sym (list_all-map is_name (λ (t : Task). t.name) system.tasks) ∙ (and_parts _ _ both).0)
 
