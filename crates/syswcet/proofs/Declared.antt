@@ -63,7 +63,8 @@ judged_three outside reads start oil elf timing Fact x after steps =
     let was_elf = file_ok calls elf image_limit HasImage one.1 two.0 two.1 two.2 in
     let three = then_ok (TimingFile calls timing) (λ times. Judged (Fact two.0 one.0 times)) two.1 x after two.3 in
     let was_timing = file_ok calls timing timing_limit HasTiming two.1 three.0 three.1 three.2 in
-    let told_one : (outside one.1).told ≡ (outside start).told = ((system_honest outside reads oil elf timing []).leaves start (Ok one.0) one.1 one.2).goes_on.kept in
+    let told_one : (outside one.1).told ≡ (outside start).told =
+    ((system_honest outside reads oil elf timing []).leaves start (Ok one.0) one.1 one.2).goes_on.kept in
     let told_two : (outside two.1).told ≡ (outside start).told =
     ((image_honest outside reads oil elf timing []).leaves one.1 (Ok two.0) two.1 two.2).goes_on.kept ∙ told_one in (
       was_oil.bytes,
