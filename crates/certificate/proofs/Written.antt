@@ -11,7 +11,7 @@ use Rattle.json.proofs.Printed.Utf8.{IsUtf8-are_ascii}
 use Rattle.serde_json.specs.Data.{Data, depth, items_depth}
 use Rattle.serde_json.specs.Read.{read, max_depth}
 use Rattle.serde_json.specs.View.{items_of}
-use Rattle.serde_json.specs.Written.{has_float, items_have_float}
+use Rattle.serde_json.specs.Written.{has_float, items_have_float, compact_text}
 use Rattle.listed.specs.Lists.{each_from, differ, AllFrom}
 use Rattle.json_fields.specs.Files.{IsGiven}
 use Rattle.json_fields.specs.Forms.{is_number, is_text}
@@ -31,7 +31,7 @@ use Rattle.certificate.specs.Form.{CertParts, is_task, is_isr, is_state, cert_pa
 use Rattle.certificate.specs.Lawful.{IsLawful}
 use Rattle.certificate.specs.Parts.{number_in, id_below, flag_in, depth_in, same_context, block_of, inner_of, isr_at}
 use Rattle.certificate.specs.States.{held_id, held_of, task_at, task_of, tasks_of, state_of_parts, state_of, states_of}
-use Rattle.certificate.specs.Writing.{number_data, flag_data, digits_data, list_data, task_data, isr_members, isr_data, state_data, cert_data}
+use Rattle.certificate.specs.Writing.{number_data, flag_data, digits_data, list_data, task_data, isr_members, isr_data, state_data, cert_data, cert_text}
 use Rattle.certificate.proofs.Decimals.{digits_below-decimal}
 use Rattle.certificate.proofs.Newlines.{read-newline}
 
@@ -207,7 +207,7 @@ numbers_back name rules task cert lawful =
       ne_eqb cert.denominator 0 (λ none. omega (arith, lawful.denominator.0)),
     ) refl
 
-pub cert_back : (name : List ℕ) (rules : StateRules) (task : ℕ) (cert : Cert) → IsLawful rules task cert → cert_in rules task name (cert_data name cert) ≡ Ok cert
+cert_back : (name : List ℕ) (rules : StateRules) (task : ℕ) (cert : Cert) → IsLawful rules task cert → cert_in rules task name (cert_data name cert) ≡ Ok cert
 cert_back name rules task cert lawful =
     rw (parts_back name cert, numbers_back name rules task cert lawful, states_back rules cert.states lawful.states, (bytes_eq-Decides name name).1 refl)
     (ap (λ id. Ok (record { task = id; bound = cert.bound; denominator = cert.denominator; states = cert.states; multipliers = cert.multipliers })) (sym lawful.for_task))
@@ -233,7 +233,7 @@ isr_exact (Some at) = refl
 state_exact : (state : AbsState) → has_float (state_data state) ≡ false
 state_exact state = rw (all_exact task_data task_exact state.tasks, isr_exact state.isr, flag_exact state.disabled) refl
 
-pub cert_exact : (name : List ℕ) (cert : Cert) → has_float (cert_data name cert) ≡ false
+cert_exact : (name : List ℕ) (cert : Cert) → has_float (cert_data name cert) ≡ false
 unfolding cert_data
 cert_exact name cert = rw (all_exact digits_data (λ _. refl) cert.multipliers, all_exact state_data state_exact cert.states) refl
 
@@ -262,11 +262,17 @@ cert_shallow name cert = omega (arith, all_shallow digits_data 0 (λ _. omega ar
 
 -- ---- the text
 
-pub read_again : (name : List ℕ) (cert : Cert) (text : List ℕ) → IsUtf8 text → (depth (cert_data name cert) ≤ max_depth → read text ≡ Some (cert_data name cert))
+pub text_of : (name : List ℕ) (cert : Cert) (d : Data) (text : List ℕ) → d ≡ cert_data name cert → (has_float d ≡ false → text ≡ compact_text d) → text ++ 10 ∷ [] ≡ cert_text name cert
+text_of name cert d text is written =
+    let exact : has_float d ≡ false = rw is (cert_exact name cert) in
+    ap (λ t. t ++ 10 ∷ []) (written exact ∙ ap compact_text is)
+
+pub read_again : (name : List ℕ) (cert : Cert) (d : Data) (text : List ℕ) → d ≡ cert_data name cert → IsUtf8 text → (depth d ≤ max_depth → read text ≡ Some d)
     → (rules : StateRules) (task : ℕ) → IsLawful rules task cert → IsGiven cert_kinds.Json (cert_in rules task name) (text ++ 10 ∷ []) (Ok cert)
-read_again name cert text utf8 reads rules task lawful =
+read_again name cert d text is utf8 reads rules task lawful =
+    let shallow : depth d ≤ max_depth = rw is (cert_shallow name cert) in
     inl (
-      cert_data name cert,
-      (IsUtf8-append text (10 ∷ []) utf8 (IsUtf8-are_ascii (10 ∷ []) refl), read-newline text ∙ reads (cert_shallow name cert)),
-      cert_back name rules task cert lawful,
+      d,
+      (IsUtf8-append text (10 ∷ []) utf8 (IsUtf8-are_ascii (10 ∷ []) refl), read-newline text ∙ reads shallow),
+      ap (cert_in rules task name) is ∙ cert_back name rules task cert lawful,
     )

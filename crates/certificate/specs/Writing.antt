@@ -65,3 +65,27 @@ cert_data name cert = object (
 -- one line: the value with no space, and a newline
 abbrev pub cert_text : List ℕ → Cert → List ℕ
 cert_text name cert = compact_text (cert_data name cert) ++ 10 ∷ []
+
+-- ---- worked cases
+
+lone : Cert
+lone = record {
+  task = 0;
+  bound = 13;
+  denominator = 1;
+  multipliers = 13 ∷ 10 ∷ 3 ∷ 2 ∷ 1 ∷ 0 ∷ 3 ∷ 0 ∷ 0 ∷ [];
+  states = record { mode = 0; tasks = At 0 false [] ∷ []; isr = None; disabled = false; suspended = 0 }
+  ∷ record { mode = 0; tasks = Suspended ∷ []; isr = None; disabled = false; suspended = 0 }
+  ∷ [];
+}
+
+its_line : cert_text (codes "T") lone
+    ≡ codes "{\"bound\":\"13\",\"denominator\":\"1\",\"multipliers\":[\"13\",\"10\",\"3\",\"2\",\"1\",\"0\",\"3\",\"0\",\"0\"],\"states\":[[0,[[0,0]],[],0,0],[0,[[]],[],0,0]],\"task\":\"T\"}\n"
+unfolding lone cert_data digits escape_byte
+its_line = refl
+
+-- a task that holds resources 1 and 4 with its inner ceiling in force, while ISR 2 is active
+its_value : compact_text (state_data (record { mode = 3; tasks = At 7 true (1 ∷ 4 ∷ []) ∷ []; isr = Some (record { isr = 2; block = 9 }); disabled = true; suspended = 5 }))
+    ≡ codes "[3,[[7,1,1,4]],[2,9],1,5]"
+unfolding digits
+its_value = refl

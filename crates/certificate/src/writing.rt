@@ -1,6 +1,6 @@
 //! The JSON value of a scheduler state, and of a number.
 
-ghost use Rattle.std.specs.Prelude.{◌≡◌, ◌∷◌, map, IfOk};
+ghost use Rattle.std.specs.Prelude.{◌≡◌, ◌∷◌, ◌++◌, map, IfOk};
 ghost use Rattle.serde_json.specs.View.{view};
 ghost use Rattle.certificate.specs.Writing as words;
 
@@ -57,11 +57,34 @@ impl Written for AbsState {
     }
 }
 
+/// A number is written as a number.
+impl Written for usize {
+    ghost use Rattle.certificate.specs.Writing.{number_data};
+
+    ghost data_of = { number_data };
+
+    fn value(&self, _alloc: Global) -> Result<Value, AllocError> {
+        Ok(Value::from(*self))
+    }
+}
+
 /// The list of what is written for each of the members.
 pub(crate) fn list_of<T: Written>(alloc: Global, members: &[T]) -> Result<Value, AllocError>
     ensures { IfOk result (λ v. view v ≡ words.list_data (map T.data_of members.now)) }
 {
-    let mut values = Vec::new(alloc);
+    list_after(alloc, Vec::new(alloc), members)
+}
+
+/// The list of the values, and then what is written for each of the members.
+fn list_after<T: Written>(
+    alloc: Global,
+    front: Vec<Value>,
+    members: &[T],
+) -> Result<Value, AllocError>
+    ensures { IfOk result (λ v. view v
+        ≡ words.list_data (map view front.items ++ map T.data_of members.now)) }
+{
+    let mut values = front;
     for member in members {
         values.push(member.value(alloc)?)?;
     }
@@ -85,13 +108,10 @@ fn task_value(
         ≡ words.list_data (words.number_data block ∷ words.flag_data inner
             ∷ map words.number_data held.now)) }
 {
-    let mut members = Vec::new(alloc);
-    members.push(Value::from(block))?;
-    members.push(Value::from(inner as u8))?;
-    for id in held {
-        members.push(Value::from(*id))?;
-    }
-    Ok(Value::Array(members))
+    let mut front = Vec::new(alloc);
+    front.push(Value::from(block))?;
+    front.push(Value::from(inner as u8))?;
+    list_after(alloc, front, held)
 }
 
 fn isr_value(alloc: Global, isr: Option<IsrAt>) -> Result<Value, AllocError>
