@@ -1,0 +1,2 @@
+pub mod LiftedAnswers
+pub mod Limits
