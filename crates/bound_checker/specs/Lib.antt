@@ -1,3 +1,4 @@
 pub mod Good
 pub mod Laws
 pub mod Worked
+pub mod Working

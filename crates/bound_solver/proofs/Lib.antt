@@ -1,0 +1,3 @@
+pub mod LiftedAnswers
+pub mod Limits
+pub mod TaskBounds
