@@ -132,19 +132,21 @@ isr_back rules (Some at) fits =
 
 state_back : (rules : StateRules) (state : AbsState) → FitsRules rules state → ReadsBack 3 (state_data state)
 state_back rules state fits =
-    let suspended = fits.suspended in
-    list_back 2 (number_data state.mode ∷ list_data (map task_data state.tasks) ∷ isr_data state.isr ∷ flag_data state.disabled ∷ number_data state.suspended ∷ []) (
-      deeper 0 2 (number_data state.mode) (omega arith) (id_back state.mode fits.mode.1),
+    let depth = fits.suspended in
+    let mode : Data = number_data state.mode in
+    let tasks : Data = list_data (map task_data state.tasks) in
+    let isr : Data = isr_data state.isr in
+    let disabled : Data = flag_data state.disabled in
+    let suspended : Data = number_data state.suspended in
+    list_back 2 (mode ∷ tasks ∷ isr ∷ disabled ∷ suspended ∷ []) (
+      deeper 0 2 mode (omega arith) (id_back state.mode fits.mode.1),
       (
         list_back 1 (map task_data state.tasks) (tasks_back rules 0 state.tasks fits.tasks),
         (
-          deeper 1 2 (isr_data state.isr) (omega arith) (isr_back rules state.isr fits.isr),
+          deeper 1 2 isr (omega arith) (isr_back rules state.isr fits.isr),
           (
-            deeper 0 2 (flag_data state.disabled) (omega arith) (flag_back state.disabled),
-            (
-              deeper 0 2 (number_data state.suspended) (omega arith) (number_back state.suspended (omega arith)),
-              tt,
-            ),
+            deeper 0 2 disabled (omega arith) (flag_back state.disabled),
+            (deeper 0 2 suspended (omega arith) (number_back state.suspended (omega arith)), tt),
           ),
         ),
       ),
