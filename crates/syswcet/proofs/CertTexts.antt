@@ -240,4 +240,5 @@ pub cert_again : (rules : StateRules) (task : ℕ) (name : List ℕ) (cert : Cer
     → IsGiven cert_kinds.Json (cert_in rules task name) (cert_text name cert) (Ok cert)
 cert_again rules task name cert is_text lawful =
     let back = cert_reads rules task name cert is_text lawful in
-    read_again name cert (compact_text (cert_data name cert)) back.text (λ _. read_text 5 (cert_data name cert) (omega arith) back) rules task lawful
+    let d : Data = cert_data name cert in
+    read_again name cert d (compact_text d) refl back.text (λ _. read_text 5 d (omega arith) back) rules task lawful
