@@ -24,7 +24,7 @@ use Rattle.certificate.specs.Form.{CertParts, cert_parts, keys, have_form}
 use Rattle.certificate.specs.Lawful.{IsLawful}
 use Rattle.certificate.specs.States.{states_of}
 use Rattle.certificate.specs.Writing.{cert_text}
-use Rattle.certificate.proofs.Written.{cert_again}
+use Rattle.syswcet.proofs.CertTexts.{cert_again}
 use Rattle.bound_solver.specs.Bounds.{IsWithinLimits}
 use Rattle.syswcet.specs.Headline.{HasBound}
 

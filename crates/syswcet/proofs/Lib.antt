@@ -8,6 +8,7 @@ pub mod Declared
 pub mod TaskNames
 pub mod Lasting
 pub mod Analysing
+pub mod CertTexts
 pub mod Certified
 pub mod Saying
 pub mod AllBounds
