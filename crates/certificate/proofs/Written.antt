@@ -1,11 +1,11 @@
 -- A certificate that is written is read again as the same certificate.
-use Rattle.std.proofs.Common.{◌≡◌, ◌≢◌, ℕ, zero, suc, ◌+◌, ◌^◌, ◌<◌, ◌≤◌, Bool, true, false, List, [], ◌∷◌, ◌++◌, length, map, Option, Some, None, Result, Ok, refl, sym, ap, ◌∙◌, arith, inl, decimal, max}
+use Rattle.std.proofs.Common.{◌≡◌, ℕ, zero, suc, ◌+◌, ◌^◌, ◌<◌, ◌≤◌, Bool, true, false, List, [], ◌∷◌, ◌++◌, length, map, Option, Some, None, Result, Ok, refl, sym, ap, ◌∙◌, arith, inl, decimal}
 use Rattle.std.proofs.lemmas.Bool.{false≢true, le-leb, lt-ltb, ne_eqb, eq-eqb}
 use Rattle.std.proofs.lemmas.List.{length-map}
 use Rattle.std.proofs.lemmas.Option.{same_Some}
 use Rattle.std.proofs.lemmas.Slice.Eq.{bytes_eq-Decides}
 use Rattle.std.proofs.lemmas.Str.{IsUtf8-append}
-use Rattle.std.specs.Prelude.{IsUtf8, IfSome, bytes_eq, nat_eq, slice_get}
+use Rattle.std.specs.Prelude.{IsUtf8, IfSome, nat_eq, slice_get}
 use Rattle.std.specs.List.{AllByRecursion, list_all}
 use Rattle.json.proofs.Printed.Utf8.{IsUtf8-are_ascii}
 use Rattle.serde_json.specs.Data.{Data, depth, items_depth}
@@ -31,7 +31,7 @@ use Rattle.certificate.specs.Form.{CertParts, is_task, is_isr, is_state, cert_pa
 use Rattle.certificate.specs.Lawful.{IsLawful}
 use Rattle.certificate.specs.Parts.{number_in, id_below, flag_in, depth_in, same_context, block_of, inner_of, isr_at}
 use Rattle.certificate.specs.States.{held_id, held_of, task_at, task_of, tasks_of, state_of_parts, state_of, states_of}
-use Rattle.certificate.specs.Writing.{number_data, flag_data, digits_data, list_data, task_data, isr_members, isr_data, state_data, cert_data, cert_text}
+use Rattle.certificate.specs.Writing.{number_data, flag_data, digits_data, task_data, isr_members, isr_data, state_data, cert_data, cert_text}
 use Rattle.certificate.proofs.Decimals.{digits_below-decimal}
 use Rattle.certificate.proofs.Newlines.{read-newline}
 

@@ -4,7 +4,7 @@
 use Rattle.std.specs.Prelude.{ℕ, List, [], ◌∷◌, ◌++◌, map, Bool, true, false, Option, Some, None, codes, decimal, ◌≡◌, refl}
 use Rattle.std.specs.Fmt.{digits}
 use Rattle.json.specs.Print.{escape_byte}
-use Rattle.serde_json.specs.Data.{Data, number, unsigned, string, array, object, Members, no_members, member}
+use Rattle.serde_json.specs.Data.{Data, number, unsigned, string, array, object, no_members, member}
 use Rattle.serde_json.specs.View.{items_of}
 use Rattle.serde_json.specs.Written.{compact_text}
 use Rattle.abstract_sched.specs.declared.states.AbsState.{AbsState}
