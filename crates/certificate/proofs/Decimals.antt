@@ -28,7 +28,11 @@ all_more (c ∷ ds) d all last =
 
 more : (n : ℕ) (ds : List ℕ) → 10 ≤ n → Digits (n / 10) ds → Digits n (ds ++ (48 + n % 10) ∷ [])
 more n [] large front = absurd (omega (arith, front.some))
-more n (c ∷ ds) large front = record { all = all_more (c ∷ ds) _ front.all (digit (n % 10) (omega arith)); some = omega arith; first = λ _. front.first (omega arith) }
+more n (c ∷ ds) large front = record {
+  all = all_more (c ∷ ds) _ front.all (digit (n % 10) (omega arith));
+  some = omega arith;
+  first = λ _. front.first (omega arith);
+}
 
 digits_of_decimal : (n : ℕ) → n < 10 ^ 64 → Digits n (decimal n)
 digits_of_decimal = decimal_by_steps_wide Digits one more

@@ -99,7 +99,8 @@ after_fraction-newline (x ∷ xs) = rw (after_digits-newline xs) (either more (x
 
 after_exponent-newline : (t : List ℕ) → after_exponent (t ++ newline) ≡ more (after_exponent t)
 after_exponent-newline [] = refl
-after_exponent-newline (x ∷ xs) = rw (after_sign-newline xs, after_digits-newline (after_sign xs)) (either more _ (after_digits (after_sign xs)) (Some (x ∷ xs)))
+after_exponent-newline (x ∷ xs) =
+    rw (after_sign-newline xs, after_digits-newline (after_sign xs)) (either more _ (after_digits (after_sign xs)) (Some (x ∷ xs)))
 
 then_more : (next : List ℕ → Option (List ℕ)) → ((t : List ℕ) → next (t ++ newline) ≡ more (next t))
     → (rest : Option (List ℕ)) → option_and_then next (more rest) ≡ more (option_and_then next rest)
@@ -144,7 +145,13 @@ null-newline (a ∷ b ∷ c ∷ d ∷ rest) = rw (ends_word-newline rest) refl
 word-newline : (x : ℕ) (xs : List ℕ) → word (x ∷ (xs ++ newline)) ≡ word (x ∷ xs)
 unfolding word
 word-newline x xs =
-    rw (true-newline (x ∷ xs), false-newline (x ∷ xs), null-newline (x ∷ xs), after_number-newline (x ∷ xs), number_before-newline (x ∷ xs) (after_number (x ∷ xs))) refl
+    rw (
+      true-newline (x ∷ xs),
+      false-newline (x ∷ xs),
+      null-newline (x ∷ xs),
+      after_number-newline (x ∷ xs),
+      number_before-newline (x ∷ xs) (after_number (x ∷ xs)),
+    ) refl
 
 -- ---- lexemes
 
