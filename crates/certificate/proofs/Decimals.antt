@@ -1,11 +1,9 @@
 -- The decimal digits of a number are read back as the number.
-use Rattle.std.proofs.Common.{◌≡◌, ℕ, zero, suc, ◌+◌, ◌/◌, ◌%◌, ◌^◌, ◌<◌, ◌≤◌, ◌&&◌, ◌==◌, Bool, true, false, not, List, [], ◌∷◌, ◌++◌, length, get_or, Some, refl, ap, ◌∙◌, arith, subst, decimal}
-use Rattle.std.specs.Prelude.{nat_lt}
+use Rattle.std.proofs.Common.{◌≡◌, ℕ, zero, suc, ◌+◌, ◌/◌, ◌%◌, ◌^◌, ◌<◌, ◌≤◌, ◌==◌, true, false, List, [], ◌∷◌, ◌++◌, length, get_or, Some, refl, arith, decimal}
 use Rattle.std.specs.List.{list_all}
 use Rattle.std.specs.Char.{is_ascii_digit}
 use Rattle.std.proofs.lemmas.Fmt.{decimal_by_steps_wide, decimal_digit, decimal_is_IsNumeral_wide}
 use Rattle.std.proofs.lemmas.Bool.{ne_eqb, le-leb, lt-ltb, and_parts}
-use Rattle.std.proofs.Math.Nat.{pow-le-pow_right}
 use Rattle.json_fields.specs.Numbers.{is_digits, digits_below}
 
 record Digits (n : ℕ) (ds : List ℕ) : Type 0 where
@@ -30,7 +28,11 @@ all_more (c ∷ ds) d all last =
 
 more : (n : ℕ) (ds : List ℕ) → 10 ≤ n → Digits (n / 10) ds → Digits n (ds ++ (48 + n % 10) ∷ [])
 more n [] large front = absurd (omega (arith, front.some))
-more n (c ∷ ds) large front = record { all = all_more (c ∷ ds) _ front.all (digit (n % 10) (omega arith)); some = omega arith; first = λ _. front.first (omega arith) }
+more n (c ∷ ds) large front = record {
+  all = all_more (c ∷ ds) _ front.all (digit (n % 10) (omega arith));
+  some = omega arith;
+  first = λ _. front.first (omega arith);
+}
 
 digits_of_decimal : (n : ℕ) → n < 10 ^ 64 → Digits n (decimal n)
 digits_of_decimal = decimal_by_steps_wide Digits one more

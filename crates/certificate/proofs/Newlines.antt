@@ -1,14 +1,14 @@
 -- A newline after a JSON text doesn't change what is read of it.
-use Rattle.std.proofs.Common.{◌≡◌, ℕ, suc, ◌+◌, ◌-◌, ◌<◌, ◌≤◌, ◌&&◌, ◌==◌, Bool, true, false, cond, List, [], ◌∷◌, ◌++◌, length, take, drop, Option, Some, None, option_map, option_and_then, refl, ap, ◌∙◌, arith, length-append}
+use Rattle.std.proofs.Common.{◌≡◌, ℕ, suc, ◌+◌, ◌-◌, ◌==◌, Bool, true, false, cond, List, [], ◌∷◌, ◌++◌, length, drop, Option, Some, None, option_map, option_and_then, refl, ap, arith, length-append}
 use Rattle.std.specs.List.{prefix_len}
 use Rattle.std.specs.Char.{is_ascii_digit}
 use Rattle.std.proofs.Math.Bool.{and-false}
 use Rattle.std.proofs.lemmas.List.{take-append-le}
 use Rattle.json.specs.Ascii as ascii
 use Rattle.json.specs.Text.{Within, plain, after_backslash, after_u, after_high, content, code_unit, short_escape}
-use Rattle.json.specs.Token.{Token, boolean, null}
-use Rattle.json.specs.Word.{head, ends_word, after_digits, after_minus, after_sign, after_whole, after_fraction, after_exponent, after_number, number_before, literal, word}
-use Rattle.json.specs.Lex.{Lexeme, Class, quote, backslash, operator, space, other, class, Mode, between, in_word, in_string, in_escape, string_token, token, lex_byte, lex, punctuate, fresh, tokens}
+use Rattle.json.specs.Token.{boolean, null}
+use Rattle.json.specs.Word.{ends_word, after_digits, after_minus, after_sign, after_whole, after_fraction, after_exponent, after_number, number_before, literal, word}
+use Rattle.json.specs.Lex.{Lexeme, Class, quote, backslash, operator, space, other, class, Mode, between, in_word, in_string, in_escape, lex_byte, lex, punctuate, fresh, tokens}
 use Rattle.json.specs.Json as json
 use Rattle.serde_json.specs.Read.{read, max_depth, of_json}
 
@@ -99,7 +99,8 @@ after_fraction-newline (x ∷ xs) = rw (after_digits-newline xs) (either more (x
 
 after_exponent-newline : (t : List ℕ) → after_exponent (t ++ newline) ≡ more (after_exponent t)
 after_exponent-newline [] = refl
-after_exponent-newline (x ∷ xs) = rw (after_sign-newline xs, after_digits-newline (after_sign xs)) (either more _ (after_digits (after_sign xs)) (Some (x ∷ xs)))
+after_exponent-newline (x ∷ xs) =
+    rw (after_sign-newline xs, after_digits-newline (after_sign xs)) (either more _ (after_digits (after_sign xs)) (Some (x ∷ xs)))
 
 then_more : (next : List ℕ → Option (List ℕ)) → ((t : List ℕ) → next (t ++ newline) ≡ more (next t))
     → (rest : Option (List ℕ)) → option_and_then next (more rest) ≡ more (option_and_then next rest)
@@ -144,7 +145,13 @@ null-newline (a ∷ b ∷ c ∷ d ∷ rest) = rw (ends_word-newline rest) refl
 word-newline : (x : ℕ) (xs : List ℕ) → word (x ∷ (xs ++ newline)) ≡ word (x ∷ xs)
 unfolding word
 word-newline x xs =
-    rw (true-newline (x ∷ xs), false-newline (x ∷ xs), null-newline (x ∷ xs), after_number-newline (x ∷ xs), number_before-newline (x ∷ xs) (after_number (x ∷ xs))) refl
+    rw (
+      true-newline (x ∷ xs),
+      false-newline (x ∷ xs),
+      null-newline (x ∷ xs),
+      after_number-newline (x ∷ xs),
+      number_before-newline (x ∷ xs) (after_number (x ∷ xs)),
+    ) refl
 
 -- ---- lexemes
 

@@ -1,11 +1,11 @@
 -- A certificate that is written is read again as the same certificate.
-use Rattle.std.proofs.Common.{◌≡◌, ◌≢◌, ℕ, zero, suc, ◌+◌, ◌^◌, ◌<◌, ◌≤◌, Bool, true, false, List, [], ◌∷◌, ◌++◌, length, map, Option, Some, None, Result, Ok, refl, sym, ap, ◌∙◌, arith, inl, decimal, max}
+use Rattle.std.proofs.Common.{◌≡◌, ℕ, zero, suc, ◌+◌, ◌^◌, ◌<◌, ◌≤◌, Bool, true, false, List, [], ◌∷◌, ◌++◌, length, map, Option, Some, None, Result, Ok, refl, sym, ap, ◌∙◌, arith, inl, decimal}
 use Rattle.std.proofs.lemmas.Bool.{false≢true, le-leb, lt-ltb, ne_eqb, eq-eqb}
 use Rattle.std.proofs.lemmas.List.{length-map}
 use Rattle.std.proofs.lemmas.Option.{same_Some}
 use Rattle.std.proofs.lemmas.Slice.Eq.{bytes_eq-Decides}
 use Rattle.std.proofs.lemmas.Str.{IsUtf8-append}
-use Rattle.std.specs.Prelude.{IsUtf8, IfSome, bytes_eq, nat_eq, slice_get}
+use Rattle.std.specs.Prelude.{IsUtf8, IfSome, nat_eq, slice_get}
 use Rattle.std.specs.List.{AllByRecursion, list_all}
 use Rattle.json.proofs.Printed.Utf8.{IsUtf8-are_ascii}
 use Rattle.serde_json.specs.Data.{Data, depth, items_depth}
@@ -31,7 +31,7 @@ use Rattle.certificate.specs.Form.{CertParts, is_task, is_isr, is_state, cert_pa
 use Rattle.certificate.specs.Lawful.{IsLawful}
 use Rattle.certificate.specs.Parts.{number_in, id_below, flag_in, depth_in, same_context, block_of, inner_of, isr_at}
 use Rattle.certificate.specs.States.{held_id, held_of, task_at, task_of, tasks_of, state_of_parts, state_of, states_of}
-use Rattle.certificate.specs.Writing.{number_data, flag_data, digits_data, list_data, task_data, isr_members, isr_data, state_data, cert_data, cert_text}
+use Rattle.certificate.specs.Writing.{number_data, flag_data, digits_data, task_data, isr_members, isr_data, state_data, cert_data, cert_text}
 use Rattle.certificate.proofs.Decimals.{digits_below-decimal}
 use Rattle.certificate.proofs.Newlines.{read-newline}
 
@@ -97,7 +97,9 @@ held_back : (rules : StateRules) (ids : List ℕ) → AllByRecursion (λ id. (id
     → held_of rules (map number_data ids) ≡ Ok ids
 unfolding held_of
 held_back rules ids below once =
-    rw (all_back (held_id rules) number_data (λ id. (id < rules.resources) × IsId id) (λ id fits. rw (id_back rules.resources id fits.0 fits.1) refl) 0 ids below, once) refl
+    let read : (id : ℕ) → (id < rules.resources) × IsId id → held_id rules (number_data id) ≡ Ok id =
+    λ id fits. rw (id_back rules.resources id fits.0 fits.1) refl in
+    rw (all_back (held_id rules) number_data (λ id. (id < rules.resources) × IsId id) read 0 ids below, once) refl
 
 flag_there : (flags : List Bool) (i : ℕ) → i < length flags → (flag : Bool) × (slice_get flags i ≡ Some flag)
 flag_there [] i below = absurd (omega arith)
@@ -118,11 +120,13 @@ task_back rules id (At block inner held) fits below =
       held_back rules held fits.resources fits.once,
     ) refl
 
-tasks_back : (rules : StateRules) (tasks : List TaskAt) → AllFrom (FitsTask rules) 0 tasks → length tasks ≡ length rules.inner → tasks_of rules (map task_data tasks) ≡ Ok tasks
+tasks_back : (rules : StateRules) (tasks : List TaskAt) → AllFrom (FitsTask rules) 0 tasks → length tasks ≡ length rules.inner
+    → tasks_of rules (map task_data tasks) ≡ Ok tasks
 tasks_back rules tasks fit count =
     let many = eq-eqb (length (map task_data tasks)) (length rules.inner) (rw length-map count) in
     let places = with_places (FitsTask rules) (length rules.inner) 0 tasks fit (omega arith) in
-    rw (many, each_back (task_of rules) task_data (λ id task. FitsTask rules id task × (id < length rules.inner)) (λ id task fits. task_back rules id task fits.0 fits.1) 0 tasks places) refl
+    let Place = λ (id : ℕ) (task : TaskAt). FitsTask rules id task × (id < length rules.inner) in
+    rw (many, each_back (task_of rules) task_data Place (λ id task fits. task_back rules id task fits.0 fits.1) 0 tasks places) refl
 
 isr_back : (rules : StateRules) (isr : Option IsrAt) → IfSome isr (FitsIsr rules) → isr_at rules (isr_members isr) ≡ Some isr
 unfolding isr_at
@@ -153,7 +157,7 @@ flag_form false = refl
 
 task_form : (task : TaskAt) → is_task (task_data task) ≡ true
 task_form Suspended = refl
-task_form (At block inner held) = 
+task_form (At block inner held) =
     rw (
       members_of-items_of (map number_data held),
       ne_eqb (suc (suc (length (map number_data held)))) 1 (λ is. omega arith),
@@ -166,7 +170,13 @@ isr_form None = refl
 isr_form (Some at) = refl
 
 state_form : (state : AbsState) → is_state (state_data state) ≡ true
-state_form state = rw (members_of-items_of (map task_data state.tasks), all_pass is_task task_data task_form state.tasks, isr_form state.isr, flag_form state.disabled) refl
+state_form state =
+    rw (
+      members_of-items_of (map task_data state.tasks),
+      all_pass is_task task_data task_form state.tasks,
+      isr_form state.isr,
+      flag_form state.disabled,
+    ) refl
 
 -- ---- a certificate
 
@@ -189,10 +199,8 @@ parts_back name cert =
       all_pass is_state state_data state_form cert.states,
     ) refl
 
-digits_back : (limit n : ℕ) → n < limit → limit ≤ 2 ^ 120 → n < 10 ^ 64
-digits_back limit n below small = omega arith
-
-multipliers_back : (multipliers : List ℕ) → AllByRecursion (λ m. m < 2 ^ 80) multipliers → each_from (λ _. multiplier_in) 0 (map digits_data multipliers) ≡ Ok multipliers
+multipliers_back : (multipliers : List ℕ) → AllByRecursion (λ m. m < 2 ^ 80) multipliers
+    → each_from (λ _. multiplier_in) 0 (map digits_data multipliers) ≡ Ok multipliers
 multipliers_back multipliers small =
     all_back multiplier_in digits_data (λ m. m < 2 ^ 80) (λ m below. rw (digits_below-decimal (2 ^ 80) m below (omega arith)) refl) 0 multipliers small
 
@@ -209,8 +217,14 @@ numbers_back name rules task cert lawful =
 
 cert_back : (name : List ℕ) (rules : StateRules) (task : ℕ) (cert : Cert) → IsLawful rules task cert → cert_in rules task name (cert_data name cert) ≡ Ok cert
 cert_back name rules task cert lawful =
-    rw (parts_back name cert, numbers_back name rules task cert lawful, states_back rules cert.states lawful.states, (bytes_eq-Decides name name).1 refl)
-    (ap (λ id. Ok (record { task = id; bound = cert.bound; denominator = cert.denominator; states = cert.states; multipliers = cert.multipliers })) (sym lawful.for_task))
+    rw (
+      parts_back name cert,
+      numbers_back name rules task cert lawful,
+      states_back rules cert.states lawful.states,
+      (bytes_eq-Decides name name).1 refl,
+    )
+    (ap (λ id. Ok (record { task = id; bound = cert.bound; denominator = cert.denominator; states = cert.states; multipliers = cert.multipliers }))
+    (sym lawful.for_task))
 
 -- ---- no float, and few levels
 
@@ -262,7 +276,8 @@ cert_shallow name cert = omega (arith, all_shallow digits_data 0 (λ _. omega ar
 
 -- ---- the text
 
-pub text_of : (name : List ℕ) (cert : Cert) (d : Data) (text : List ℕ) → d ≡ cert_data name cert → (has_float d ≡ false → text ≡ compact_text d) → text ++ 10 ∷ [] ≡ cert_text name cert
+pub text_of : (name : List ℕ) (cert : Cert) (d : Data) (text : List ℕ) → d ≡ cert_data name cert → (has_float d ≡ false → text ≡ compact_text d)
+    → text ++ 10 ∷ [] ≡ cert_text name cert
 text_of name cert d text is written =
     let exact : has_float d ≡ false = rw is (cert_exact name cert) in
     ap (λ t. t ++ 10 ∷ []) (written exact ∙ ap compact_text is)

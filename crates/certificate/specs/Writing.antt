@@ -4,7 +4,7 @@
 use Rattle.std.specs.Prelude.{ℕ, List, [], ◌∷◌, ◌++◌, map, Bool, true, false, Option, Some, None, codes, decimal, ◌≡◌, refl}
 use Rattle.std.specs.Fmt.{digits}
 use Rattle.json.specs.Print.{escape_byte}
-use Rattle.serde_json.specs.Data.{Data, number, unsigned, string, array, object, Members, no_members, member}
+use Rattle.serde_json.specs.Data.{Data, number, unsigned, string, array, object, no_members, member}
 use Rattle.serde_json.specs.View.{items_of}
 use Rattle.serde_json.specs.Written.{compact_text}
 use Rattle.abstract_sched.specs.declared.states.AbsState.{AbsState}
@@ -44,23 +44,23 @@ isr_data isr = list_data (isr_members isr)
 
 abbrev pub state_data : AbsState → Data
 state_data state = list_data (
-  number_data state.mode
-  ∷ list_data (map task_data state.tasks)
-  ∷ isr_data state.isr
-  ∷ flag_data state.disabled
-  ∷ number_data state.suspended
-  ∷ []
-)
+    number_data state.mode
+    ∷ list_data (map task_data state.tasks)
+    ∷ isr_data state.isr
+    ∷ flag_data state.disabled
+    ∷ number_data state.suspended
+    ∷ []
+    )
 
 -- for the task of this name
 unfoldable pub cert_data : List ℕ → Cert → Data
 cert_data name cert = object (
-  member (codes "bound") (digits_data cert.bound)
-  (member (codes "denominator") (digits_data cert.denominator)
-  (member (codes "multipliers") (list_data (map digits_data cert.multipliers))
-  (member (codes "states") (list_data (map state_data cert.states))
-  (member (codes "task") (string name) no_members))))
-)
+    member (codes "bound") (digits_data cert.bound)
+    (member (codes "denominator") (digits_data cert.denominator)
+    (member (codes "multipliers") (list_data (map digits_data cert.multipliers))
+    (member (codes "states") (list_data (map state_data cert.states))
+    (member (codes "task") (string name) no_members))))
+    )
 
 -- one line: the value with no space, and a newline
 abbrev pub cert_text : List ℕ → Cert → List ℕ
@@ -75,8 +75,8 @@ lone = record {
   denominator = 1;
   multipliers = 13 ∷ 10 ∷ 3 ∷ 2 ∷ 1 ∷ 0 ∷ 3 ∷ 0 ∷ 0 ∷ [];
   states = record { mode = 0; tasks = At 0 false [] ∷ []; isr = None; disabled = false; suspended = 0 }
-  ∷ record { mode = 0; tasks = Suspended ∷ []; isr = None; disabled = false; suspended = 0 }
-  ∷ [];
+      ∷ record { mode = 0; tasks = Suspended ∷ []; isr = None; disabled = false; suspended = 0 }
+      ∷ [];
 }
 
 its_line : cert_text (codes "T") lone
@@ -85,7 +85,15 @@ unfolding lone cert_data digits escape_byte
 its_line = refl
 
 -- a task that holds resources 1 and 4 with its inner ceiling in force, while ISR 2 is active
-its_value : compact_text (state_data (record { mode = 3; tasks = At 7 true (1 ∷ 4 ∷ []) ∷ []; isr = Some (record { isr = 2; block = 9 }); disabled = true; suspended = 5 }))
-    ≡ codes "[3,[[7,1,1,4]],[2,9],1,5]"
-unfolding digits
+interrupted : AbsState
+interrupted = record {
+  mode = 3;
+  tasks = At 7 true (1 ∷ 4 ∷ []) ∷ [];
+  isr = Some (record { isr = 2; block = 9 });
+  disabled = true;
+  suspended = 5;
+}
+
+its_value : compact_text (state_data interrupted) ≡ codes "[3,[[7,1,1,4]],[2,9],1,5]"
+unfolding interrupted digits
 its_value = refl

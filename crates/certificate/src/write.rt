@@ -23,7 +23,7 @@ pub fn write_cert(alloc: Global, name: &str, cert: &Cert) -> Result<CertText, Me
     ensures text { IfOk result (λ text. text ≡ cert_text name.now cert.now) }
     ensures again { (rules : StateRules) (task : ℕ) → IsLawful rules task cert.now
         → IfOk result (λ text.
-            IsGiven CertKind.Json (cert_in rules task name.now) text (Ok cert.now)) }
+        IsGiven CertKind.Json (cert_in rules task name.now) text (Ok cert.now)) }
 {
     let value = cert_value(alloc, name, cert)?;
     let mut bytes = value.to_vec(alloc)?;

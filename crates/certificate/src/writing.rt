@@ -10,9 +10,7 @@ use std::alloc::{AllocError, Global};
 
 /// What is written as a JSON value.
 pub(crate) trait Written {
-    ghost use Rattle.std.specs.Prelude.{◌≡◌, IfOk};
     ghost use Rattle.serde_json.specs.Data.{Data};
-    ghost use Rattle.serde_json.specs.View.{view};
 
     ghost data_of: { Self → Data };
 
@@ -20,7 +18,7 @@ pub(crate) trait Written {
         ensures { IfOk result (λ v. view v ≡ data_of self.now) };
 }
 
-/// A number is written as a text of decimal digits.
+/// A number of a certificate is written as a text of decimal digits.
 impl Written for u128 {
     ghost use Rattle.certificate.specs.Writing.{digits_data};
 
@@ -28,6 +26,17 @@ impl Written for u128 {
 
     fn value(&self, alloc: Global) -> Result<Value, AllocError> {
         digits_value(alloc, *self)
+    }
+}
+
+/// A number of a state is written as a number.
+impl Written for usize {
+    ghost use Rattle.certificate.specs.Writing.{number_data};
+
+    ghost data_of = { number_data };
+
+    fn value(&self, _alloc: Global) -> Result<Value, AllocError> {
+        Ok(Value::from(*self))
     }
 }
 
@@ -54,17 +63,6 @@ impl Written for AbsState {
         let isr = isr_value(alloc, self.isr)?;
         let disabled = self.disabled as u8;
         json!(in alloc; [self.mode, tasks, isr, disabled, self.suspended])
-    }
-}
-
-/// A number is written as a number.
-impl Written for usize {
-    ghost use Rattle.certificate.specs.Writing.{number_data};
-
-    ghost data_of = { number_data };
-
-    fn value(&self, _alloc: Global) -> Result<Value, AllocError> {
-        Ok(Value::from(*self))
     }
 }
 
@@ -98,15 +96,10 @@ pub(crate) fn digits_value(alloc: Global, number: u128) -> Result<Value, AllocEr
     Ok(Value::String(digits))
 }
 
-fn task_value(
-    alloc: Global,
-    block: usize,
-    inner: bool,
-    held: &[usize],
-) -> Result<Value, AllocError>
+fn task_value(alloc: Global, block: usize, inner: bool, held: &[usize]) -> Result<Value, AllocError>
     ensures { IfOk result (λ v. view v
         ≡ words.list_data (words.number_data block ∷ words.flag_data inner
-            ∷ map words.number_data held.now)) }
+        ∷ map words.number_data held.now)) }
 {
     let mut front = Vec::new(alloc);
     front.push(Value::from(block))?;

@@ -11,4 +11,6 @@ returns-clause-text c =
 pub returns-clause-again : goal.returns-clause-again
 returns-clause-again c =
     let pushed : c.from_vec.result ≡ c.in_ok-bytes.bytes.items ++ 10 ∷ [] = c.from_vec.ensures ∙ c.in_ok-push.ensures.items in
-    rw pushed (read_again c.args.name.now c.args.cert.now (view c.in_ok-value.value) c.in_ok-bytes.bytes.items c.in_ok-value.ensures c.in_ok-bytes.ensures.utf8 c.in_ok-bytes.ensures.reads_back)
+    rw pushed
+    (read_again c.args.name.now c.args.cert.now (view c.in_ok-value.value) c.in_ok-bytes.bytes.items c.in_ok-value.ensures c.in_ok-bytes.ensures.utf8
+    c.in_ok-bytes.ensures.reads_back)
