@@ -19,13 +19,17 @@ use Rattle.bound_checker.specs.Working.Verdicts.{verdict_of, verdict_by}
 
 -- ---- the verdict where the states are closed
 
-by_answer : (plant : PlantData) (task : ℕ) (cert : Cert) (answer : DualVerdict) → IsClosed plant cert.states → IsFirstFailing (rows_of plant cert.states task) cert.multipliers cert.denominator cert.bound answer → IsVerdict plant task cert (verdict_of answer)
+by_answer : (plant : PlantData) (task : ℕ) (cert : Cert) (answer : DualVerdict) → IsClosed plant cert.states
+    → IsFirstFailing (rows_of plant cert.states task) cert.multipliers cert.denominator cert.bound answer
+    → IsVerdict plant task cert (verdict_of answer)
 by_answer plant task cert duals.Yes closed holds = record { closed = closed; good = holds }
 by_answer plant task cert (duals.Count given wanted) closed holds = record { closed = closed; fails = holds }
 by_answer plant task cert (duals.Column column) closed holds = record { closed = closed; fails = holds }
 by_answer plant task cert duals.Bound closed holds = record { closed = closed; fails = holds }
 
-pub verdict_is : (plant : PlantData) (task : ℕ) (cert : Cert) (states : List AbsState) (rows : RowsData) (verdict : Verdict) → IsClosed plant cert.states → states ≡ cert.states → rows ≡ rows_of plant states task → verdict ≡ verdict_by rows cert → IsVerdict plant task cert verdict
+pub verdict_is : (plant : PlantData) (task : ℕ) (cert : Cert) (states : List AbsState) (rows : RowsData) (verdict : Verdict)
+    → IsClosed plant cert.states → states ≡ cert.states → rows ≡ rows_of plant states task
+    → verdict ≡ verdict_by rows cert → IsVerdict plant task cert verdict
 verdict_is plant task cert states rows verdict closed states_are rows_are is =
     let own : rows ≡ rows_of plant cert.states task = subst (λ (ss : List AbsState). rows ≡ rows_of plant ss task) states_are rows_are in
     let by : verdict ≡ verdict_by (rows_of plant cert.states task) cert = subst (λ (d : RowsData). verdict ≡ verdict_by d cert) own is in
@@ -35,7 +39,9 @@ verdict_is plant task cert states rows verdict closed states_are rows_are is =
 
 -- ---- good certificates
 
-pub good_bounds : GoodMultipliersBound → (plant : PlantData) (task : ℕ) (cert : Cert) → IsPlant plant → differ same_state cert.states ≡ true → task < length plant.system.tasks → IsGood plant task cert → BoundsActivations plant task cert.bound
+pub good_bounds : GoodMultipliersBound → (plant : PlantData) (task : ℕ) (cert : Cert) → IsPlant plant
+    → differ same_state cert.states ≡ true → task < length plant.system.tasks → IsGood plant task cert
+    → BoundsActivations plant task cert.bound
 good_bounds law plant task cert belongs once exists good =
     law plant cert.states task cert.multipliers cert.denominator cert.bound
     (record { belongs = belongs; closed = good.closed; once = once; exists = exists }) good.good

@@ -52,7 +52,8 @@ misused_at plant states number code has = record {
   before = has.before;
 }
 
-lacking_at : (plant : PlantData) (states : List AbsState) (number transition : ℕ) → LacksMove plant states number transition → FailsAt plant states number
+lacking_at : (plant : PlantData) (states : List AbsState) (number transition : ℕ)
+    → LacksMove plant states number transition → FailsAt plant states number
 lacking_at plant states number transition has = record {
   state = has.state;
   there = has.there;
@@ -78,26 +79,31 @@ one_mode : (plant : PlantData) (states : List AbsState) (a b : ℕ) → LacksIni
 one_mode plant states a b at_a at_b =
     one_place a b (λ before. at_a.lacks (at_b.before a before)) (λ after. at_b.lacks (at_a.before b after))
 
-one_code : (plant : PlantData) (states : List AbsState) (a b code other : ℕ) → a ≡ b → HasMisuse plant states a code → HasMisuse plant states b other → code ≡ other
+one_code : (plant : PlantData) (states : List AbsState) (a b code other : ℕ) → a ≡ b → HasMisuse plant states a code
+    → HasMisuse plant states b other → code ≡ other
 one_code plant states a b code other same at_a at_b =
     let state = one_state states a b at_a.state at_b.state same at_a.there at_b.there in
     let twice : Err at_a.misuse ≡ Err at_b.misuse = sym at_a.misused ∙ ap (successors plant) state ∙ at_b.misused in
     let misuse : at_a.misuse ≡ at_b.misuse = cc in
     sym at_a.code_is ∙ ap (λ (m : Misuse). m.code) misuse ∙ at_b.code_is
 
-no_moves : (plant : PlantData) (states : List AbsState) (a b code transition : ℕ) → a ≡ b → HasMisuse plant states a code → LacksMove plant states b transition → ⊥
+no_moves : (plant : PlantData) (states : List AbsState) (a b code transition : ℕ) → a ≡ b
+    → HasMisuse plant states a code → LacksMove plant states b transition → ⊥
 no_moves plant states a b code transition same at_a at_b =
     let state = one_state states a b at_a.state at_b.state same at_a.there at_b.there in
     let both : Err at_a.misuse ≡ Ok at_b.moves = sym at_a.misused ∙ ap (successors plant) state ∙ at_b.moved in
     cc
 
-one_transition : (plant : PlantData) (states : List AbsState) (a b transition other : ℕ) → a ≡ b → LacksMove plant states a transition → LacksMove plant states b other → transition ≡ other
+one_transition : (plant : PlantData) (states : List AbsState) (a b transition other : ℕ) → a ≡ b
+    → LacksMove plant states a transition → LacksMove plant states b other → transition ≡ other
 one_transition plant states a b transition other same at_a at_b =
     let state = one_state states a b at_a.state at_b.state same at_a.there at_b.there in
     let twice : Ok at_a.moves ≡ Ok at_b.moves = sym at_a.moved ∙ ap (successors plant) state ∙ at_b.moved in
     let moves : at_a.moves ≡ at_b.moves = cc in
-    one_place transition other (λ before. at_a.lacks (at_b.first transition at_a.move before (subst (λ (ms : List Move). slice_get ms transition ≡ Some at_a.move) moves at_a.at)))
-    (λ after. at_b.lacks (at_a.first other at_b.move after (subst (λ (ms : List Move). slice_get ms other ≡ Some at_b.move) (sym moves) at_b.at)))
+    let from_a = subst (λ (ms : List Move). slice_get ms transition ≡ Some at_a.move) moves at_a.at in
+    let from_b = subst (λ (ms : List Move). slice_get ms other ≡ Some at_b.move) (sym moves) at_b.at in
+    one_place transition other (λ before. at_a.lacks (at_b.first transition at_a.move before from_a))
+    (λ after. at_b.lacks (at_a.first other at_b.move after from_b))
 
 -- ---- one closure
 
@@ -166,7 +172,8 @@ by_parts (No (Count given wanted)) = refl
 by_parts (No (Column column)) = refl
 by_parts (No Bound) = refl
 
-is_closure : (plant : PlantData) (task : ℕ) (cert : Cert) (verdict : Verdict) → IsVerdict plant task cert verdict → IsClosure plant cert.states (closure_in verdict)
+is_closure : (plant : PlantData) (task : ℕ) (cert : Cert) (verdict : Verdict) → IsVerdict plant task cert verdict
+    → IsClosure plant cert.states (closure_in verdict)
 is_closure plant task cert Yes is = is.closed
 is_closure plant task cert (No (MissingInitial mode)) is = is
 is_closure plant task cert (No (Missing state transition)) is = is
@@ -175,7 +182,9 @@ is_closure plant task cert (No (Count given wanted)) is = is.closed
 is_closure plant task cert (No (Column column)) is = is.closed
 is_closure plant task cert (No Bound) is = is.closed
 
-is_answer : (plant : PlantData) (task : ℕ) (cert : Cert) (verdict : Verdict) → closure_in verdict ≡ closures.Yes → IsVerdict plant task cert verdict → IsFirstFailing (rows_of plant cert.states task) cert.multipliers cert.denominator cert.bound (answer_in verdict)
+is_answer : (plant : PlantData) (task : ℕ) (cert : Cert) (verdict : Verdict) → closure_in verdict ≡ closures.Yes
+    → IsVerdict plant task cert verdict
+    → IsFirstFailing (rows_of plant cert.states task) cert.multipliers cert.denominator cert.bound (answer_in verdict)
 is_answer plant task cert Yes is_yes is = is.good
 is_answer plant task cert (No (MissingInitial mode)) is_yes is = absurd cc
 is_answer plant task cert (No (Missing state transition)) is_yes is = absurd cc
@@ -190,12 +199,13 @@ same_parts (closures.MissingInitial mode) a b same = refl
 same_parts (closures.Missing state transition) a b same = refl
 same_parts (closures.Misuse state code) a b same = refl
 
-pub one_verdict : (plant : PlantData) (task : ℕ) (cert : Cert) (one other : Verdict) → IsVerdict plant task cert one → IsVerdict plant task cert other → one ≡ other
+pub one_verdict : (plant : PlantData) (task : ℕ) (cert : Cert) (one other : Verdict) → IsVerdict plant task cert one
+    → IsVerdict plant task cert other → one ≡ other
 one_verdict plant task cert one other is also =
     let rows = rows_of plant cert.states task in
     let closure = one_closure plant cert.states (closure_in one) (closure_in other) (is_closure plant task cert one is) (is_closure plant task cert other also) in
     let answers : closure_in one ≡ closures.Yes → answer_in one ≡ answer_in other = λ is_yes.
-        sym (first_failing_is rows cert.multipliers cert.denominator cert.bound (answer_in one) (is_answer plant task cert one is_yes is))
-        ∙ first_failing_is rows cert.multipliers cert.denominator cert.bound (answer_in other) (is_answer plant task cert other (sym closure ∙ is_yes) also) in
+    sym (first_failing_is rows cert.multipliers cert.denominator cert.bound (answer_in one) (is_answer plant task cert one is_yes is))
+    ∙ first_failing_is rows cert.multipliers cert.denominator cert.bound (answer_in other) (is_answer plant task cert other (sym closure ∙ is_yes) also) in
     sym (by_parts one) ∙ same_parts (closure_in one) (answer_in one) (answer_in other) answers
     ∙ ap (λ (c : Closure). verdict_by_parts c (answer_in other)) closure ∙ by_parts other

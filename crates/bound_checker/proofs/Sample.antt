@@ -11,7 +11,7 @@ use Rattle.whole_rows.specs.declared.DualVerdict.TheVariants as duals
 use Rattle.whole_rows.proofs.Verdicts.{first_failing_holds}
 use Rattle.abstract_sched.specs.declared.states.AbsState.{AbsState}
 use Rattle.abstract_sched.specs.declared.states.TaskAt.TheVariants.{Suspended, At}
-use Rattle.scheduler_moves.specs.Closed.{AreListed, MovesStay, HoldsBefore, LacksMove}
+use Rattle.scheduler_moves.specs.Closed.{AreListed, MovesStay, LacksMove}
 use Rattle.scheduler_moves.specs.Moves.{initial, successors, take_move}
 use Rattle.scheduler_moves.specs.declared.moves.Misuse.{Misuse}
 use Rattle.scheduler_moves.specs.declared.moves.Move.{Move}

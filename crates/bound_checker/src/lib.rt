@@ -1,6 +1,6 @@
-//! Verdicts on certificates: whether the multipliers of a certificate, over the states that it lists,
-//! bound the response of its task. `specs/Good.antt` says which certificates are good and what fails
-//! in others, `specs/Laws.antt` what that means for activations.
+//! Verdicts on certificates: whether the multipliers of a certificate, over the states that it
+//! lists, bound the response of its task. `specs/Good.antt` says which certificates are good and
+//! what fails in others, `specs/Laws.antt` what that means for activations.
 //!
 //! `check(alloc, &plant, task, &cert)?` gives the verdict on the certificate for a task.
 #![tactic(auto)]

@@ -32,7 +32,8 @@ high n limit (pos b) sum above reached small =
     let more : 1 * b ≤ n * b = mul-le-mul_right b above in
     omega (arith, ints)
 
-pub optimum_within : (d : RowsData) (multipliers : List ℤ) (denominator bound : ℤ) → HasSmallSizes d → All (λ right. pos 0 ≤ℤ right) d.rights → IsOptimum d multipliers denominator bound → IsWithinLimits bound
+pub optimum_within : (d : RowsData) (multipliers : List ℤ) (denominator bound : ℤ) → HasSmallSizes d
+    → All (λ right. pos 0 ≤ℤ right) d.rights → IsOptimum d multipliers denominator bound → IsWithinLimits bound
 optimum_within d multipliers denominator bound sizes rights optimum =
     let natural = small_is denominator optimum.denominator_small in
     let above : 0 < unsigned_abs denominator = (let over = optimum.denominator_above in omega (arith, ints)) in
@@ -40,8 +41,7 @@ optimum_within d multipliers denominator bound sizes rights optimum =
     let reached = rw natural at optimum.reached in
     let size = sum_size d.rights multipliers optimum.multipliers_small in
     let few = sizes.rights in
-    let small : unsigned_abs (right_sum d (map unsigned_abs multipliers)) < 2 ^ 120 = omega arith in
-    (
+    let small : unsigned_abs (right_sum d (map unsigned_abs multipliers)) < 2 ^ 120 = omega arith in (
       low (unsigned_abs denominator) bound (right_sum d (map unsigned_abs multipliers)) (sum_not_negative d.rights (map unsigned_abs multipliers) rights) below,
       high (unsigned_abs denominator) (2 ^ 120) bound (right_sum d (map unsigned_abs multipliers)) above reached small,
     )

@@ -23,7 +23,9 @@ use Rattle.bound_solver.proofs.Limits.{optimum_within}
 
 -- ---- the answer of a task, from that of its rows and links
 
-pub joined : LinksJoinColumns → (plant : PlantData) (states : List AbsState) (task : ℕ) (rows : RowsData) (links : List (Option Link)) → IsPlant plant → rows ≡ rows_of plant states task → links ≡ links_of plant states task → AreLinks rows links
+pub joined : LinksJoinColumns
+    → (plant : PlantData) (states : List AbsState) (task : ℕ) (rows : RowsData) (links : List (Option Link))
+    → IsPlant plant → rows ≡ rows_of plant states task → links ≡ links_of plant states task → AreLinks rows links
 joined join plant states task rows links belongs rows_are links_are =
     subst (λ (r : RowsData). AreLinks r links) (sym rows_are)
     (subst (AreLinks (rows_of plant states task)) (sym links_are) (join plant states task belongs))
@@ -33,7 +35,9 @@ abbrev SaysOf : ℕ → RowsData → List (Option Link) → Result Optimum Solve
 SaysOf pivots rows links answer =
     SaysOutcome (squeezed_of rows links) pivots (lifted_outcome rows links (outcome_of (squeezed_of rows links) pivots)) answer
 
-pub says_of_task : (plant : PlantData) (states : List AbsState) (task pivots : ℕ) (rows : RowsData) (links : List (Option Link)) (answer : Result Optimum SolveFault) → rows ≡ rows_of plant states task → links ≡ links_of plant states task → SaysOf pivots rows links answer → SaysOutcome (solved_rows plant states task) pivots (bound_outcome plant states task pivots) answer
+pub says_of_task : (plant : PlantData) (states : List AbsState) (task pivots : ℕ) (rows : RowsData) (links : List (Option Link)) (answer : Result Optimum SolveFault)
+    → rows ≡ rows_of plant states task → links ≡ links_of plant states task → SaysOf pivots rows links answer
+    → SaysOutcome (solved_rows plant states task) pivots (bound_outcome plant states task pivots) answer
 says_of_task plant states task pivots rows links answer rows_are links_are says =
     subst (λ (ls : List (Option Link)). SaysOf pivots (rows_of plant states task) ls answer) links_are
     (subst (λ (r : RowsData). SaysOf pivots r links answer) rows_are says)
@@ -44,6 +48,9 @@ rights_not_negative : (plant : PlantData) (states : List AbsState) (task : ℕ) 
 rights_not_negative plant states task =
     All-map (λ right. pos 0 ≤ℤ right) (λ row. pos row.right) (Families.rows plant states task) (λ i d l. omega (arith, ints))
 
-pub bound_within : RowsAreSmall → (plant : PlantData) (states : List AbsState) (task : ℕ) (multipliers : List ℤ) (denominator bound : ℤ) → IsPlant plant → differ same_state states ≡ true → IsOptimum (rows_of plant states task) multipliers denominator bound → IsWithinLimits bound
+pub bound_within : RowsAreSmall
+    → (plant : PlantData) (states : List AbsState) (task : ℕ) (multipliers : List ℤ) (denominator bound : ℤ)
+    → IsPlant plant → differ same_state states ≡ true
+    → IsOptimum (rows_of plant states task) multipliers denominator bound → IsWithinLimits bound
 bound_within small plant states task multipliers denominator bound belongs once optimum =
     optimum_within (rows_of plant states task) multipliers denominator bound (small plant states task belongs once) (rights_not_negative plant states task) optimum

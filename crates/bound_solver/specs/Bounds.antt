@@ -1,7 +1,7 @@
 -- The bound of a task: the rows of its task, squeezed, have an outcome, and what that says of the full rows is lifted.
-use Rattle.std.specs.Prelude.{◌≡◌, ℕ, ◌^◌, List, [], ◌∷◌, length, ℤ, pos, ◌≤ℤ◌, ◌<ℤ◌, Option, Result, Ok, Err}
+use Rattle.std.specs.Prelude.{ℕ, ◌^◌, List, [], ◌∷◌, length, ℤ, pos, ◌≤ℤ◌, ◌<ℤ◌, Option, Result, Ok, Err}
 use Rattle.whole_rows.specs.Rows.{RowsData}
-use Rattle.whole_simplex.specs.Outcome.{Outcome, outcome_of, TooLarge, Greatest, LargeMultiplier, Direction, Limit, TooWide}
+use Rattle.whole_simplex.specs.Outcome.{Outcome, outcome_of, Greatest, LargeMultiplier, Direction}
 use Rattle.row_squeeze.specs.declared.Link.{Link}
 use Rattle.row_squeeze.specs.Chains.{chain_places}
 use Rattle.row_squeeze.specs.Lift.{lifted_of, spread}

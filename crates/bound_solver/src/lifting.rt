@@ -17,12 +17,7 @@ use whole_rows::{Row, Rows};
 use whole_simplex::{Optimum, SolveFault, solve};
 
 /// The optimum of the rows, which are solved with each chain of columns made one column.
-pub fn solved(
-    alloc: Global,
-    rows: &Rows,
-    links: &Links,
-    pivots: u32,
-) -> Result<Optimum, SolveFault>
+pub fn solved(alloc: Global, rows: &Rows, links: &Links, pivots: u32) -> Result<Optimum, SolveFault>
     requires sizes { HasSmallSizes rows.now }
     requires links { AreLinks rows.now links.now }
     ensures outcome { SaysOutcome (squeezed_of rows.now links.now) pivots
