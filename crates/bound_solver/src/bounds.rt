@@ -48,13 +48,13 @@ pub fn bound_of(
 
 /// Rows with their links.
 #[derive(Debug, Drop)]
-struct LinkedRows {
-    rows: Rows,
-    links: Links,
+pub struct LinkedRows {
+    pub rows: Rows,
+    pub links: Links,
 }
 
-/// The rows of the task, and their links.
-fn linked_rows(
+/// The rows of a task over a closed list of states, none of which stands twice, and their links.
+pub fn linked_rows(
     alloc: Global,
     plant: &Plant,
     states: &[AbsState],

@@ -9,5 +9,5 @@ mod bounds;
 mod laws;
 mod lifting;
 
-pub use bounds::bound_of;
+pub use bounds::{LinkedRows, bound_of, linked_rows};
 pub use laws::{bounds_are_within_limits, optima_are_within_limits};
