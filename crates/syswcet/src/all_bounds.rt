@@ -1,6 +1,6 @@
 //! `all OIL ELF TIMING STATES` finds the bound of each task of a system, up to the first task that
 //! has none.
-ghost use Rattle.std.specs.Prelude.{◌≡◌, ◌++◌, true, IfOk};
+ghost use Rattle.std.specs.Prelude.{◌≡◌, ◌++◌, true, IfOk, OnOk};
 ghost use Rattle.listed.specs.Lists.{differ};
 ghost use Rattle.abstract_sched.specs.States.{same_state};
 ghost use Rattle.scheduler_moves.specs.Closed.{IsClosed};
@@ -77,12 +77,19 @@ fn push_line(
 {
     match line_of(alloc, plant, states, task) {
         Ok(line) => {
-            text.extend_from_slice(line.as_slice())?;
+            put(text, &line)?;
             Ok(())
         }
         Err(Halt::Refused(refusal)) => Err(Halt::Refused(behind(alloc, text, &refusal)?)),
         Err(_) => Err(Halt::Memory),
     }
+}
+
+fn put(text: &mut Vec<u8>, line: &Bytes) -> Result<(), Memory>
+    ensures { OnOk result (text.new.items ≡ text.old.items ++ line.now) }
+{
+    text.extend_from_slice(line.as_slice())?;
+    Ok(())
 }
 
 /// The line of a task, or why it has none.

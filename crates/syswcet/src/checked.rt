@@ -5,7 +5,7 @@ ghost use Rattle.command_steps.specs.Steps.{IsCall, Says};
 ghost use Rattle.syswcet.specs.Check as words;
 
 use crate::states::{certificate_file, why_refusal};
-use crate::subjects::{Analysed, analysed};
+use crate::subjects::{Analysed, read_subject};
 use crate::words::Subject;
 use bound_checker::check;
 use certificate::{Cert, Verdict};
@@ -24,7 +24,7 @@ pub fn checked<F: Files>(
     ensures { words.Check (IsCall F.outside F.reads) subject.now certificate.now
         files.old result files.new }
 {
-    let analysed = analysed(alloc, subject, files)?;
+    let analysed = read_subject(alloc, subject, files)?;
     check_on(alloc, &analysed, certificate, subject.name(), files)
 }
 

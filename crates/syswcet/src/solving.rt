@@ -10,7 +10,7 @@ ghost use Rattle.syswcet.specs.Solving as words;
 ghost use Rattle.syswcet.specs.Solving.{bound_saying, cert_saying};
 
 use crate::states::closed_states;
-use crate::subjects::{Analysed, analysed};
+use crate::subjects::{Analysed, read_subject};
 use crate::words::Subject;
 use abstract_sched::AbsState;
 use bound_solver::bound_of;
@@ -38,7 +38,7 @@ pub fn bounded<F: Files>(
     ensures { words.Bound (IsCall F.outside F.reads) subject.now states.now pivots
         files.old result files.new }
 {
-    let analysed = analysed(alloc, subject, files)?;
+    let analysed = read_subject(alloc, subject, files)?;
     bound_on(alloc, &analysed, states, pivots, subject.name(), files)
 }
 
@@ -127,7 +127,7 @@ pub fn certified<F: Files>(
     ensures { words.Certify (IsCall F.outside F.reads) subject.now states.now pivots
         files.old result files.new }
 {
-    let analysed = analysed(alloc, subject, files)?;
+    let analysed = read_subject(alloc, subject, files)?;
     certify_on(alloc, &analysed, states, pivots, subject.name(), files)
 }
 

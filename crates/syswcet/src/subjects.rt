@@ -28,7 +28,7 @@ pub struct Analysed {
 }
 
 /// What the files of the subject are.
-pub fn analysed<F: Files>(
+pub fn read_subject<F: Files>(
     alloc: Global,
     subject: &Subject,
     files: &mut F,
