@@ -1,7 +1,9 @@
-//! Certificates and lists of scheduler states: their readers from JSON, and verdicts.
+//! Certificates and lists of scheduler states: their readers from JSON, the text of a
+//! certificate, and verdicts.
 //!
 //! `read_states(alloc, &rules, bytes)?` gives the states that a file lists, each of them once, and
 //! `read_cert(alloc, &rules, task, name, bytes)?` the certificate for a task.
+//! `write_cert(alloc, name, &cert)?` gives its text, which `read_cert` reads again.
 #![tactic(auto)]
 
 mod cert;
@@ -10,6 +12,8 @@ mod form;
 mod read;
 mod reading;
 mod verdict;
+mod write;
+mod writing;
 
 pub use abstract_sched::{
     AbsState, Contexts, Flags, IsrAt, StateRules, States, TaskAt, TaskStates, is_listed,
@@ -20,6 +24,7 @@ pub use listed::Memory;
 pub use osek_kernel::Context;
 pub use read::{read_cert, read_states};
 pub use verdict::{Verdict, Why};
+pub use write::{CertText, write_cert};
 
 #[cfg(test)]
 mod tests;

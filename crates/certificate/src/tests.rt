@@ -46,6 +46,19 @@ fn the_certificate_of_the_lone_task(rt: HostRuntime) -> Result<(), Fail> {
     Ok(())
 }
 
+#[test]
+fn the_line_of_a_certificate(rt: HostRuntime) -> Result<(), Fail> {
+    let rules = lone(rt.alloc())?;
+    let cert = read_cert(rt.alloc(), &rules, 0, b"T", CERT.as_bytes());
+    let cert = cert.ok().ok_or("a certificate")?;
+    let text = write_cert(rt.alloc(), "T", &cert).ok().ok_or("a text")?;
+    let line = format!(in rt.alloc(); "{CERT}\n")?;
+    assert_eq!(rt; text.as_slice(), line.as_bytes());
+    let again = read_cert(rt.alloc(), &rules, 0, b"T", text.as_slice());
+    assert!(rt; again.is_ok());
+    Ok(())
+}
+
 #[rattlefmt::skip]
 const FAULTS: [(&str, &str, CertKind); 15] = [
     ("{\"bound\"", "{\"at\":1,\"bound\"", CertKind::Shape),
