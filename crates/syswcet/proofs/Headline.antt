@@ -1,132 +1,125 @@
 -- The headline: from the steps of each command to what its text means.
-use Rattle.std.proofs.Common.{◌≡◌, ◌⊎◌, ℕ, List, [], ◌∷◌, ℤ, unsigned_abs, Option, Some, None, Result, Ok, Err, inl, inr, refl, ap, ◌∙◌, subst}
+use Rattle.std.proofs.Common.{◌≡◌, ◌⊎◌, ℕ, List, [], ◌∷◌, Option, Some, None, Result, Ok, Err, inl, inr, subst}
 use Rattle.wcet_io.specs.Files.{FilesOutside}
 use Rattle.wcet_io.specs.Sink.{SinkOutside}
+use Rattle.wcet_atomic_blocks.specs.Plants.{PlantData}
+use Rattle.abstract_sched.specs.declared.states.AbsState.{AbsState}
+use Rattle.row_build.specs.Rows.{rows_of}
+use Rattle.activation_windows.specs.Bounds.{AreFor}
 use Rattle.certificate.specs.declared.cert.Cert.{Cert}
-use Rattle.whole_rows.specs.Rows.{RowsData}
-use Rattle.whole_rows.specs.Greatest.{IsGreatest}
-use Rattle.whole_simplex.specs.Outcome.{Outcome, outcome_of, TooLarge, Greatest, LargeMultiplier, Direction, Limit, TooWide}
-use Rattle.certificate.specs.declared.verdict.Why.{Why}
-use Rattle.certificate.specs.declared.verdict.Verdict.{Verdict}
-use Rattle.certificate.specs.declared.verdict.Verdict.TheVariants.{Yes, No}
-use Rattle.lone_image.specs.LoneMachine.{BoundsRuns}
-use Rattle.lone_image.specs.LoneRows.{lone_rows}
-use Rattle.lone_image.specs.LoneStates.{first_open}
-use Rattle.lone_image.specs.Verdict.{verdict_of}
-use Rattle.lone_image.proofs.Bound.{greatest_value_bounds}
-use Rattle.lone_image.proofs.Yes.{yes_bounds}
+use Rattle.bound_solver.specs.Bounds.{solved_rows, bound_outcome}
 use Rattle.command_steps.specs.declared.status.Status.{Status}
 use Rattle.command_steps.specs.declared.status.Status.TheVariants as status
-use Rattle.command_steps.specs.declared.halt.Refusal.{Refusal}
 use Rattle.command_steps.specs.declared.halt.Halt.{Halt}
 use Rattle.command_steps.specs.declared.halt.Halt.TheVariants as halt
 use Rattle.command_steps.specs.Steps.{Calls, IsCall, Judged}
 use Rattle.command_steps.specs.Reports.{Writes, IsWriteCall, Wrote}
 use Rattle.command_steps.specs.Outside.{Appends, Shows, text_of}
-use Rattle.command_steps.proofs.Given.{then_ok, file_ok, WasRead}
+use Rattle.command_steps.proofs.Given.{then_ok, file_ok}
 use Rattle.command_steps.proofs.Running.{ok_answered, shows}
-use Rattle.reports.specs.Verdicts.{yes_text}
-use Rattle.reports.specs.Solved.{bound_text}
+use Rattle.syswcet.specs.declared.subjects.Analysed.{Analysed}
 use Rattle.syswcet.specs.declared.words.Command.{Command}
 use Rattle.syswcet.specs.declared.words.Command.TheVariants as command
-use Rattle.syswcet.specs.Inputs.{lone_task, image_limit, oil_limit, IsLoneImage, HasLoneImage, HasTree, LoneImage, LoneCertificate, LoneStates, OilTree, HasSystem}
-use Rattle.syswcet.specs.Solving.{AnswersOutcome}
-use Rattle.syswcet.specs.CheckLone.{verdict_answer, CertificateAnswer, CheckLone}
-use Rattle.syswcet.specs.BoundLone.{AnswersClosed, StatesAnswer, BoundLone}
-use Rattle.syswcet.specs.ShowOil.{HasLayout, ShowOil}
-use Rattle.syswcet.specs.Plants.{timing_limit, HasImage, HasTiming, HasPlant, OilSystem, ElfImage, TimingFile, PlantWithTiming, PlantWithImage, PlantOf}
-use Rattle.syswcet.specs.ShowCode.{code_text, ShowCode}
-use Rattle.syswcet.specs.Replay.{schedule_limit, HasSchedule, HasPlayed, ScheduleFile, ReplayOn, Replay}
+use Rattle.syswcet.specs.declared.words.Subject.{Subject}
+use Rattle.syswcet.specs.All.{AnswersAll, AllOn, All}
+use Rattle.syswcet.specs.Check.{HasVerdict, CheckOn, Check}
 use Rattle.syswcet.specs.Commands.{StepsOf}
-use Rattle.syswcet.specs.Headline.{AreBytesOf, SaysTruly, Means}
-use Rattle.syswcet.proofs.Commands.{system_honest, image_honest, plant_honest}
+use Rattle.syswcet.specs.Headline.{AreBytesOf, BoundsAll, ReplaysSchedule, ShowsCode, SaysTruly, Means}
+use Rattle.syswcet.specs.Inputs.{states_limit, oil_limit, HasTree, OilTree}
+use Rattle.syswcet.specs.Plants.{PlantOf}
+use Rattle.syswcet.specs.Replay.{schedule_limit, HasSchedule, HasPlayed, ScheduleFile, ReplayOn, Replay}
+use Rattle.syswcet.specs.ShowCode.{code_text, ShowCode}
+use Rattle.syswcet.specs.ShowOil.{HasLayout, ShowOil}
+use Rattle.syswcet.specs.Solving.{bound_saying, cert_saying, AnswersTask, BoundOn, Bound, CertifyOn, Certify}
+use Rattle.syswcet.specs.States.{HasCertificate, CertificateFile, ClosedStates}
+use Rattle.syswcet.specs.Subjects.{AnalysedOf, name_of}
+use Rattle.syswcet.proofs.AllBounds.{all_bounded}
+use Rattle.syswcet.proofs.Analysing.{IsAnalysed, AreClosed, is_analysed, are_closed, closed_for}
+use Rattle.syswcet.proofs.Commands.{plant_honest}
+use Rattle.syswcet.proofs.Declared.{DeclarePlant, first_bytes, later_bytes, of_system, plant_declared}
+use Rattle.syswcet.proofs.Lasting.{cert_lawful, good_bounds, optimum_said}
+use Rattle.syswcet.proofs.Saying.{said_bounds, said_certified}
 
--- the file that is read first
-first_bytes : {F X : Type 0} (outside : F → FilesOutside) (reads : Calls F) (start : F) (name : List ℕ) (limit : ℕ)
-    (Fact : List ℕ → Result X Refusal → Type 0) (x : X)
-    → (was : WasRead (IsCall outside reads) name limit Fact start x) → AreBytesOf outside reads start name was.bytes
-first_bytes outside reads start name limit Fact x was =
-    record { before = start; limit = limit; after = was.after; read = was.read; told = was.read.tells.content.whole }
+-- ---- check
 
--- ---- check lone
-
-yes_verdict : (bound : ℕ) (verdict : Verdict) (text : List ℕ) → Ok text ≡ verdict_answer bound verdict
-    → (verdict ≡ Yes) × (text ≡ yes_text lone_task bound)
-yes_verdict bound Yes text is = (refl, cc)
-yes_verdict bound (No why) text is = absurd cc
-
-check_lone : {F : Type 0} (outside : F → FilesOutside) (reads : Calls F) (start : F) (image certificate text : List ℕ) (after : F)
-    → CheckLone (IsCall outside reads) image certificate start (Ok text) after
-    → SaysTruly (AreBytesOf outside reads start) (Some (command.CheckLone image certificate)) text
-check_lone outside reads start image certificate text after steps =
+check : {F : Type 0} (outside : F → FilesOutside) (reads : Calls F) (start : F) (subject : Subject) (certificate text : List ℕ) (after : F)
+    → Check (IsCall outside reads) subject certificate start (Ok text) after
+    → SaysTruly (AreBytesOf outside reads start) (Some (command.Check subject certificate)) text
+check outside reads start subject certificate text after steps =
     let calls = IsCall outside reads in
-    let one = then_ok (LoneImage calls image) (CertificateAnswer calls certificate) start text after steps in
-    let was = file_ok calls image image_limit (HasLoneImage image) start one.0 one.1 one.2 in
-    let two = then_ok (LoneCertificate calls certificate)
-    (λ cert. Judged (λ given. given ≡ verdict_answer cert.bound (verdict_of one.0 cert))) one.1 text after one.3 in
+    let name : List ℕ = name_of subject in
+    let one = then_ok (AnalysedOf calls subject) (CheckOn calls certificate name) start text after steps in
+    let analysed : Analysed = one.0 in
+    let is : IsAnalysed (AreBytesOf outside reads start) subject analysed = is_analysed outside reads start subject analysed one.1 one.2 in
+    let two = then_ok (CertificateFile calls certificate name analysed) (λ cert. Judged (HasVerdict analysed name cert)) one.1 text after one.3 in
     let cert : Cert = two.0 in
-    let yes = yes_verdict cert.bound (verdict_of one.0 cert) text two.3.1 in
-    let lone : IsLoneImage was.bytes one.0 = was.fact in (
+    let was = file_ok calls certificate states_limit (HasCertificate analysed name) one.1 cert two.1 two.2 in
+    let verdict : HasVerdict analysed name cert (Ok text) = two.3.1 in
+    let lawful = cert_lawful analysed.plant analysed.task name was.bytes cert was.fact in (
       cert.bound,
-      yes.1,
-      (
-        was.bytes,
-        first_bytes outside reads start image image_limit (HasLoneImage image) one.0 was,
-        record { image = lone.image; is_flat = lone.is_flat; lasts = yes_bounds lone.image one.0 cert lone.forward yes.0 },
-      ),
+      verdict.1,
+      is.bounds cert.bound (good_bounds analysed.plant analysed.task cert is.belongs lawful.states.once is.exists verdict.0),
     )
 
--- ---- bound lone
+-- ---- bound
 
--- the text is `TASK N`, where N, as a whole number, is the greatest value of the rows, rounded down
-record SaysBound (task : List ℕ) (d : RowsData) (text : List ℕ) : Type 0 where
-  pub bound : ℤ
-  pub greatest : IsGreatest d bound
-  pub is : text ≡ bound_text task (unsigned_abs bound)
-
-bound_outcome : (task : List ℕ) (d : RowsData) (limit : ℕ) (outcome : Outcome) (text : List ℕ) → AnswersOutcome task d limit outcome (Ok text)
-    → SaysBound task d text
-bound_outcome task d limit (Greatest number multipliers denominator bound) text is = record { bound = bound; greatest = is.0; is = cc (is.1) }
-bound_outcome task d limit (Direction ray) text is = absurd (cc (is.1))
-bound_outcome task d limit Limit text is = absurd cc
-bound_outcome task d limit TooLarge text is = absurd cc
-bound_outcome task d limit (TooWide number pairs) text is = absurd (cc (is.3))
-bound_outcome task d limit (LargeMultiplier values) text is = absurd (cc (is.3))
-
-bound_closed : (pivots count : ℕ) (why : Option Why) (text : List ℕ) → AnswersClosed pivots count why (Ok text)
-    → SaysBound lone_task (lone_rows count) text
-bound_closed pivots count (Some why) text is = absurd cc
-bound_closed pivots count None text is = bound_outcome lone_task (lone_rows count) pivots (outcome_of (lone_rows count) pivots) text is
-
-bound_lone : {F : Type 0} (outside : F → FilesOutside) (reads : Calls F) (start : F) (image states : List ℕ) (pivots : ℕ) (text : List ℕ) (after : F)
-    → BoundLone (IsCall outside reads) image states pivots start (Ok text) after
-    → SaysTruly (AreBytesOf outside reads start) (Some (command.BoundLone image states pivots)) text
-bound_lone outside reads start image states pivots text after steps =
+bound : {F : Type 0} (outside : F → FilesOutside) (reads : Calls F) (start : F) (subject : Subject) (states : List ℕ) (pivots : ℕ)
+    (text : List ℕ) (after : F)
+    → Bound (IsCall outside reads) subject states pivots start (Ok text) after
+    → SaysTruly (AreBytesOf outside reads start) (Some (command.Bound subject states pivots)) text
+bound outside reads start subject states pivots text after steps =
     let calls = IsCall outside reads in
-    let one = then_ok (LoneImage calls image) (StatesAnswer calls states pivots) start text after steps in
-    let was = file_ok calls image image_limit (HasLoneImage image) start one.0 one.1 one.2 in
-    let count : ℕ = one.0 in
-    let two = then_ok (LoneStates calls states) (λ listed. Judged (AnswersClosed pivots count (first_open listed))) one.1 text after one.3 in
-    let says : SaysBound lone_task (lone_rows count) text = bound_closed pivots count (first_open two.0) text two.3.1 in
-    let lone : IsLoneImage was.bytes count = was.fact in
-    let runs : BoundsRuns lone.image says.bound = greatest_value_bounds lone.image count says.bound lone.forward says.greatest in
-    let size : unsigned_abs says.bound ≡ runs.0 = ap unsigned_abs runs.1 in (
-      runs.0,
-      says.is ∙ ap (bound_text lone_task) size,
-      (
-        was.bytes,
-        first_bytes outside reads start image image_limit (HasLoneImage image) count was,
-        record {
-          image = lone.image;
-          is_flat = lone.is_flat;
-          count = count;
-          forward = lone.forward;
-          greatest = subst
-              (IsGreatest (lone_rows count)) runs.1 says.greatest;
-        },
-        record { image = lone.image; is_flat = lone.is_flat; lasts = runs.2 },
-      ),
-    )
+    let name : List ℕ = name_of subject in
+    let one = then_ok (AnalysedOf calls subject) (BoundOn calls states pivots name) start text after steps in
+    let analysed : Analysed = one.0 in
+    let plant : PlantData = analysed.plant in
+    let task : ℕ = analysed.task in
+    let is : IsAnalysed (AreBytesOf outside reads start) subject analysed = is_analysed outside reads start subject analysed one.1 one.2 in
+    let two = then_ok (ClosedStates calls states plant) (λ listed. Judged (AnswersTask (bound_saying name) pivots analysed listed)) one.1 text after one.3 in
+    let listed : List AbsState = two.0 in
+    let closed : AreClosed plant listed = are_closed outside reads one.1 states plant listed two.1 two.2 in
+    let says = optimum_said (bound_saying name) (rows_of plant listed task) (solved_rows plant listed task) pivots
+    (bound_outcome plant listed task pivots) text two.3.1 in
+    let bounds = said_bounds plant listed task name text (closed_for plant listed task is.belongs is.exists closed) says in
+    (bounds.0, bounds.1, is.bounds bounds.0 bounds.2)
+
+-- ---- certify
+
+certify : {F : Type 0} (outside : F → FilesOutside) (reads : Calls F) (start : F) (subject : Subject) (states : List ℕ) (pivots : ℕ)
+    (text : List ℕ) (after : F)
+    → Certify (IsCall outside reads) subject states pivots start (Ok text) after
+    → SaysTruly (AreBytesOf outside reads start) (Some (command.Certify subject states pivots)) text
+certify outside reads start subject states pivots text after steps =
+    let calls = IsCall outside reads in
+    let name : List ℕ = name_of subject in
+    let one = then_ok (AnalysedOf calls subject) (CertifyOn calls states pivots name) start text after steps in
+    let analysed : Analysed = one.0 in
+    let plant : PlantData = analysed.plant in
+    let task : ℕ = analysed.task in
+    let is : IsAnalysed (AreBytesOf outside reads start) subject analysed = is_analysed outside reads start subject analysed one.1 one.2 in
+    let two = then_ok (ClosedStates calls states plant) (λ listed. Judged (AnswersTask (cert_saying name task listed) pivots analysed listed)) one.1 text after
+    one.3 in
+    let listed : List AbsState = two.0 in
+    let closed : AreClosed plant listed = are_closed outside reads one.1 states plant listed two.1 two.2 in
+    let are : AreFor plant listed task = closed_for plant listed task is.belongs is.exists closed in
+    let says = optimum_said (cert_saying name task listed) (rows_of plant listed task) (solved_rows plant listed task) pivots
+    (bound_outcome plant listed task pivots) text two.3.1 in
+    let bounds = said_certified plant listed task name text is.text closed are says in
+    (bounds.0, bounds.1, is.bounds bounds.0 bounds.2)
+
+-- ---- all
+
+all : {F : Type 0} (outside : F → FilesOutside) (reads : Calls F) (start : F) (oil elf timing states text : List ℕ) (after : F)
+    → All (IsCall outside reads) oil elf timing states start (Ok text) after
+    → SaysTruly (AreBytesOf outside reads start) (Some (command.All oil elf timing states)) text
+all outside reads start oil elf timing states text after steps =
+    let calls = IsCall outside reads in
+    let one = then_ok (PlantOf calls oil elf timing) (AllOn calls states) start text after steps in
+    let plant : PlantData = one.0 in
+    let two = then_ok (ClosedStates calls states plant) (λ listed. Judged (AnswersAll plant listed)) one.1 text after one.3 in
+    of_system (AreBytesOf outside reads start) oil elf timing (DeclarePlant plant) (BoundsAll text)
+    (all_bounded plant two.0 text (are_closed outside reads one.1 states plant two.0 two.1 two.2) two.3.1)
+    (plant_declared outside reads start oil elf timing plant one.1 one.2)
 
 -- ---- show oil
 
@@ -145,58 +138,16 @@ show_oil outside reads start oil text after steps =
 
 -- ---- show code
 
--- a file that is read later holds what the object told of it at the start
-later_bytes : {F X : Type 0} (outside : F → FilesOutside) (reads : Calls F) (start now : F) (name : List ℕ) (limit : ℕ)
-    (Fact : List ℕ → Result X Refusal → Type 0) (x : X) → (outside now).told ≡ (outside start).told
-    → (was : WasRead (IsCall outside reads) name limit Fact now x) → AreBytesOf outside reads start name was.bytes
-later_bytes outside reads start now name limit Fact x same was = record {
-  before = now;
-  limit = limit;
-  after = was.after;
-  read = was.read;
-  told = λ content told. was.read.tells.content.whole content (ap (λ (t : List ℕ → Option (List ℕ)). t name) same ∙ told);
-}
-
 show_code : {F : Type 0} (outside : F → FilesOutside) (reads : Calls F) (start : F) (oil elf timing text : List ℕ) (after : F)
     → ShowCode (IsCall outside reads) oil elf timing start (Ok text) after
     → SaysTruly (AreBytesOf outside reads start) (Some (command.ShowCode oil elf timing)) text
 show_code outside reads start oil elf timing text after steps =
     let calls = IsCall outside reads in
-    let names : List (List ℕ) = oil ∷ elf ∷ timing ∷ [] in
-    let whole = then_ok (PlantOf calls oil elf timing) (λ plant. Judged (λ given. given ≡ Ok (code_text plant))) start text after steps in
-    let one = then_ok (OilSystem calls oil) (PlantWithImage calls elf timing) start whole.0 whole.1 whole.2 in
-    let tree = then_ok (OilTree calls oil) (λ tree. Judged (HasSystem tree)) start one.0 one.1 one.2 in
-    let was_oil = file_ok calls oil oil_limit HasTree start tree.0 tree.1 tree.2 in
-    let two = then_ok (ElfImage calls elf) (PlantWithTiming calls timing one.0) one.1 whole.0 whole.1 one.3 in
-    let was_elf = file_ok calls elf image_limit HasImage one.1 two.0 two.1 two.2 in
-    let three = then_ok (TimingFile calls timing) (λ t. Judged (HasPlant two.0 one.0 t)) two.1 whole.0 whole.1 two.3 in
-    let was_timing = file_ok calls timing timing_limit HasTiming two.1 three.0 three.1 three.2 in
-    let told_one : (outside one.1).told ≡ (outside start).told = ((system_honest outside reads oil elf timing []).leaves start (Ok one.0) one.1 one.2).goes_on.kept in
-    let told_two : (outside two.1).told ≡ (outside start).told = ((image_honest outside reads oil elf timing []).leaves one.1 (Ok two.0) two.1 two.2).goes_on.kept ∙ told_one in (
-      was_oil.bytes,
-      first_bytes outside reads start oil oil_limit HasTree tree.0 was_oil,
-      (
-        was_elf.bytes,
-        later_bytes outside reads start one.1 elf image_limit HasImage two.0 told_one was_elf,
-        (
-          was_timing.bytes,
-          later_bytes outside reads start two.1 timing timing_limit HasTiming three.0 told_two was_timing,
-          record {
-            tree = tree.0;
-            is_text = was_oil.fact;
-            system = one.0;
-            system_is = tree.3.1;
-            image = two.0;
-            image_is = was_elf.fact;
-            times = three.0;
-            times_are = was_timing.fact;
-            plant = whole.0;
-            plant_is = three.3.1;
-            shown = cc (whole.3.1);
-          },
-        ),
-      ),
-    )
+    let one = then_ok (PlantOf calls oil elf timing) (λ plant. Judged (λ given. given ≡ Ok (code_text plant))) start text after steps in
+    let plant : PlantData = one.0 in
+    of_system (AreBytesOf outside reads start) oil elf timing (DeclarePlant plant) (ShowsCode text)
+    (λ o e t declares. record { declared = declares.declared; plant = plant; plant_is = declares.plant_is; shown = cc (one.3.1) })
+    (plant_declared outside reads start oil elf timing plant one.1 one.2)
 
 -- ---- replay
 
@@ -205,49 +156,24 @@ replay : {F : Type 0} (outside : F → FilesOutside) (reads : Calls F) (start : 
     → SaysTruly (AreBytesOf outside reads start) (Some (command.Replay oil elf timing schedule)) text
 replay outside reads start oil elf timing schedule text after steps =
     let calls = IsCall outside reads in
-    let others : List (List ℕ) = schedule ∷ [] in
-    let whole = then_ok (PlantOf calls oil elf timing) (ReplayOn calls schedule) start text after steps in
-    let one = then_ok (OilSystem calls oil) (PlantWithImage calls elf timing) start whole.0 whole.1 whole.2 in
-    let tree = then_ok (OilTree calls oil) (λ tree. Judged (HasSystem tree)) start one.0 one.1 one.2 in
-    let was_oil = file_ok calls oil oil_limit HasTree start tree.0 tree.1 tree.2 in
-    let two = then_ok (ElfImage calls elf) (PlantWithTiming calls timing one.0) one.1 whole.0 whole.1 one.3 in
-    let was_elf = file_ok calls elf image_limit HasImage one.1 two.0 two.1 two.2 in
-    let three = then_ok (TimingFile calls timing) (λ t. Judged (HasPlant two.0 one.0 t)) two.1 whole.0 whole.1 two.3 in
-    let was_timing = file_ok calls timing timing_limit HasTiming two.1 three.0 three.1 three.2 in
-    let four = then_ok (ScheduleFile calls schedule whole.0) (λ listed. Judged (HasPlayed whole.0 listed)) whole.1 text after whole.3 in
-    let was_schedule = file_ok calls schedule schedule_limit (HasSchedule whole.0) whole.1 four.0 four.1 four.2 in
-    let told_one : (outside one.1).told ≡ (outside start).told = ((system_honest outside reads oil elf timing others).leaves start (Ok one.0) one.1 one.2).goes_on.kept in
-    let told_two : (outside two.1).told ≡ (outside start).told = ((image_honest outside reads oil elf timing others).leaves one.1 (Ok two.0) two.1 two.2).goes_on.kept ∙ told_one in
-    let told_three : (outside whole.1).told ≡ (outside start).told = ((plant_honest outside reads oil elf timing others).leaves start (Ok whole.0) whole.1 whole.2).goes_on.kept in (
-      was_oil.bytes,
-      first_bytes outside reads start oil oil_limit HasTree tree.0 was_oil,
-      (
-        was_elf.bytes,
-        later_bytes outside reads start one.1 elf image_limit HasImage two.0 told_one was_elf,
-        (
-          was_timing.bytes,
-          later_bytes outside reads start two.1 timing timing_limit HasTiming three.0 told_two was_timing,
-          (
-            was_schedule.bytes,
-            later_bytes outside reads start whole.1 schedule schedule_limit (HasSchedule whole.0) four.0 told_three was_schedule,
-            record {
-              tree = tree.0;
-              is_text = was_oil.fact;
-              system = one.0;
-              system_is = tree.3.1;
-              image = two.0;
-              image_is = was_elf.fact;
-              times = three.0;
-              times_are = was_timing.fact;
-              plant = whole.0;
-              plant_is = three.3.1;
-              listed = four.0;
-              listed_is = was_schedule.fact;
-              says = four.3.1;
-            },
-          ),
-        ),
-      ),
+    let one = then_ok (PlantOf calls oil elf timing) (ReplayOn calls schedule) start text after steps in
+    let plant : PlantData = one.0 in
+    let two = then_ok (ScheduleFile calls schedule plant) (λ listed. Judged (HasPlayed plant listed)) one.1 text after one.3 in
+    let was = file_ok calls schedule schedule_limit (HasSchedule plant) one.1 two.0 two.1 two.2 in
+    let told : (outside one.1).told ≡ (outside start).told =
+    ((plant_honest outside reads oil elf timing (schedule ∷ [])).leaves start (Ok plant) one.1 one.2).goes_on.kept in (
+      was.bytes,
+      later_bytes outside reads start one.1 schedule schedule_limit (HasSchedule plant) two.0 told was,
+      of_system (AreBytesOf outside reads start) oil elf timing (DeclarePlant plant) (ReplaysSchedule was.bytes text)
+          (λ o e t declares. record {
+            declared = declares.declared;
+            plant = plant;
+            plant_is = declares.plant_is;
+            listed = two.0;
+            listed_is = was.fact;
+            says = two.3.1;
+          })
+          (plant_declared outside reads start oil elf timing plant one.1 one.2),
     )
 
 -- ---- all commands
@@ -255,14 +181,18 @@ replay outside reads start oil elf timing schedule text after steps =
 truly : {F : Type 0} (outside : F → FilesOutside) (reads : Calls F) (start : F) (command : Option Command) (text : List ℕ) (after : F)
     → StepsOf (IsCall outside reads) command start (Ok text) after → SaysTruly (AreBytesOf outside reads start) command text
 truly outside reads start None text after steps = cc (steps.1)
-truly outside reads start
-    (Some (command.CheckLone image certificate)) text after steps = check_lone outside reads start image certificate text after steps
-truly outside reads start
-    (Some (command.BoundLone image states pivots)) text after steps = bound_lone outside reads start image states pivots text after steps
+truly outside reads start (Some (command.Check subject certificate)) text after steps =
+    check outside reads start subject certificate text after steps
+truly outside reads start (Some (command.Bound subject states pivots)) text after steps =
+    bound outside reads start subject states pivots text after steps
+truly outside reads start (Some (command.Certify subject states pivots)) text after steps =
+    certify outside reads start subject states pivots text after steps
+truly outside reads start (Some (command.All oil elf timing states)) text after steps =
+    all outside reads start oil elf timing states text after steps
 truly outside reads start (Some (command.ShowOil oil)) text after steps = show_oil outside reads start oil text after steps
 truly outside reads start (Some (command.ShowCode oil elf timing)) text after steps = show_code outside reads start oil elf timing text after steps
-truly outside reads start
-    (Some (command.Replay oil elf timing schedule)) text after steps = replay outside reads start oil elf timing schedule text after steps
+truly outside reads start (Some (command.Replay oil elf timing schedule)) text after steps =
+    replay outside reads start oil elf timing schedule text after steps
 
 stepped : {F : Type 0} (calls : Calls F) (command : Option Command) (start : F) (answered : Result (List ℕ) Halt) (text : List ℕ) (after : F)
     → answered ≡ Ok text
