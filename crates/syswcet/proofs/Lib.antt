@@ -1,5 +1,8 @@
 pub mod Numbers
 pub mod Solved
+pub mod Refused
+pub mod Closing
+pub mod TaskLines
 pub mod Commands
 pub mod Headline
 pub mod Halts

@@ -11,4 +11,5 @@ pub mod ShowOil
 pub mod ShowCode
 pub mod Replay
 pub mod Commands
+pub mod Found
 pub mod Lines

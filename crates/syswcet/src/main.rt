@@ -2,13 +2,11 @@
 //! in one file, from its first read to its text; the files that it reads are its inputs, one
 //! function each.
 //!
-//!     let status = run(alloc, &words, &mut files, &mut out);    // words: show oil engine.oil
+//!     let status = run(alloc, &words, &mut files, &mut out);    // words: bound o e t T k
 #![tactic(auto)]
 
-mod bound_lone;
-mod certificates;
-mod check_lone;
-mod images;
+mod all_bounds;
+mod checked;
 mod oil_files;
 mod plants;
 mod played;
@@ -16,6 +14,8 @@ mod run;
 mod show_code;
 mod show_oil;
 mod solving;
+mod states;
+mod subjects;
 mod words;
 
 use crate::run::run;

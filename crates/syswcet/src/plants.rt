@@ -20,7 +20,7 @@ use wcet_atomic_blocks::{BlockFault, Plant, PlantFault, planted};
 use wcet_io::{Bytes, Files, Text};
 
 /// The most bytes of an image, and of a timing file.
-const IMAGE_LIMIT: usize = 16_777_216;
+pub const IMAGE_LIMIT: usize = 16_777_216;
 
 const TIMING_LIMIT: usize = 1_048_576;
 
@@ -40,7 +40,7 @@ pub fn plant_of<F: Files>(
 }
 
 /// The system that the OIL file declares.
-fn oil_system<F: Files>(alloc: Global, oil: &Text, files: &mut F) -> Result<System, Halt>
+pub fn oil_system<F: Files>(alloc: Global, oil: &Text, files: &mut F) -> Result<System, Halt>
     ensures steps { words.OilSystem (IsCall F.outside F.reads) oil.now
         files.old result files.new }
     ensures lawful { IfOk result IsLawfulSystem }
@@ -80,7 +80,7 @@ fn plant_with_timing<F: Files>(
 }
 
 /// The image in the ELF file.
-fn elf_file<F: Files>(alloc: Global, name: &Text, files: &mut F) -> Result<Image, Halt>
+pub fn elf_file<F: Files>(alloc: Global, name: &Text, files: &mut F) -> Result<Image, Halt>
     ensures { words.ElfImage (IsCall F.outside F.reads) name.now files.old result files.new }
 {
     let bytes = read_file(alloc, name, IMAGE_LIMIT, files)?;
@@ -98,7 +98,7 @@ fn elf_in(alloc: Global, bytes: &Bytes) -> Result<Image, Halt>
 }
 
 /// The timing in the file.
-fn timing_file<F: Files>(alloc: Global, name: &Text, files: &mut F) -> Result<Timing, Halt>
+pub fn timing_file<F: Files>(alloc: Global, name: &Text, files: &mut F) -> Result<Timing, Halt>
     ensures steps { words.TimingFile (IsCall F.outside F.reads) name.now
         files.old result files.new }
     ensures lawful { IfOk result IsLawfulTiming }
@@ -119,7 +119,7 @@ fn timing_in(alloc: Global, bytes: &Bytes) -> Result<Timing, Halt>
 }
 
 /// The plant of the three, or the refusal of their code.
-fn plant_with(alloc: Global, system: System, image: Image, timing: Timing) -> Result<Plant, Halt>
+pub fn plant_with(alloc: Global, system: System, image: Image, timing: Timing) -> Result<Plant, Halt>
     requires system { IsLawfulSystem system }
     requires timing { IsLawfulTiming timing }
     ensures { Says (words.HasPlant image system timing) result }

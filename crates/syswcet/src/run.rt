@@ -6,12 +6,14 @@ ghost use Rattle.reports.specs.Refusals.{words_refusal};
 ghost use Rattle.syswcet.specs.Words.{command_of};
 ghost use Rattle.syswcet.specs.Commands.{StepsOf, files_of};
 ghost use Rattle.syswcet.specs.Headline.{Means};
+ghost use Rattle.syswcet.specs.Lines.{LinesBound};
 
-use crate::bound_lone::bound_lone;
-use crate::check_lone::check_lone;
+use crate::all_bounds::all_bounds;
+use crate::checked::checked;
 use crate::played::replayed;
 use crate::show_code::show_code;
 use crate::show_oil::show_oil;
+use crate::solving::{bounded, certified};
 use crate::words::{Command, command_of};
 use command_steps::{Halt, Status, report};
 use listed::Memory;
@@ -46,6 +48,12 @@ pub fn run_surely(alloc: Global, words: &Words, files: &mut SureFiles, out: &mut
     run(alloc, words, files, out)
 }
 
+/// Each line `TASK N` that `all` writes bounds its task, those before a refusal too. Does nothing.
+pub fn lines_bound_tasks()
+    ensures { LinesBound }
+{
+}
+
 /// What the steps of the command that the words name give.
 fn answer<F: Files>(alloc: Global, words: &Words, files: &mut F) -> Result<Bytes, Halt>
     ensures { StepsOf (IsCall F.outside F.reads) (command_of words.now) files.old result files.new
@@ -70,12 +78,26 @@ fn answer_command<F: Files>(alloc: Global, command: &Command, files: &mut F) -> 
     ensures { StepsOf (IsCall F.outside F.reads) (Some command.now) files.old result files.new }
 {
     match command {
-        Command::CheckLone { image, certificate } => check_lone(alloc, image, certificate, files),
-        Command::BoundLone {
-            image,
+        Command::Check {
+            subject,
+            certificate,
+        } => checked(alloc, subject, certificate, files),
+        Command::Bound {
+            subject,
             states,
             pivots,
-        } => bound_lone(alloc, image, states, *pivots, files),
+        } => bounded(alloc, subject, states, *pivots, files),
+        Command::Certify {
+            subject,
+            states,
+            pivots,
+        } => certified(alloc, subject, states, *pivots, files),
+        Command::All {
+            oil,
+            elf,
+            timing,
+            states,
+        } => all_bounds(alloc, oil, elf, timing, states, files),
         Command::ShowOil { oil } => show_oil(alloc, oil, files),
         Command::ShowCode { oil, elf, timing } => show_code(alloc, oil, elf, timing, files),
         Command::Replay {

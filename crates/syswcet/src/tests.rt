@@ -1,21 +1,61 @@
 //! Runs over files and a sink in memory.
 use crate::run::run;
-use crate::solving::bound_of;
-use command_steps::{Halt, Reason, Status};
+use command_steps::Status;
 use listed::Memory;
 use std::alloc::Global;
 use std::process::Abort;
 use std::test::Fail;
 use wcet_io::{Bytes, MemFiles, MemSink, Text, Words};
-use whole_rows::{Row, Rows, Terms};
 
 /// addi x5, x0, 7, and then TerminateTask.
 const IMAGE: [u8; 16] = [
     0x93, 0x02, 0x70, 0x00, 0x13, 0x05, 0x00, 0x00, 0x93, 0x08, 0x20, 0x00, 0x73, 0x00, 0x00, 0x00,
 ];
 
+/// A jump to itself.
+const ROUND_AND_ROUND: [u8; 4] = [
+    0x6f, 0x00, 0x00, 0x00,
+];
+
+/// A call of itself.
+const CALLS_ITSELF: [u8; 4] = [
+    0xef, 0x00, 0x00, 0x00,
+];
+
+/// A jump to the ECALL of TerminateTask.
+const INTO_SERVICE: [u8; 16] = [
+    0x6f, 0x00, 0x80, 0x00, 0x13, 0x05, 0x00, 0x00, 0x93, 0x08, 0x20, 0x00, 0x73, 0x00, 0x00, 0x00,
+];
+
+/// ActivateTask of the task that runs, and then TerminateTask.
+const ACTIVATES_ITSELF: [u8; 24] = [
+    0x13, 0x05, 0x00, 0x00, 0x93, 0x08, 0x10, 0x00, 0x73, 0x00, 0x00, 0x00, 0x13, 0x05, 0x00, 0x00,
+    0x93, 0x08, 0x20, 0x00, 0x73, 0x00, 0x00, 0x00,
+];
+
+/// ChainTask of the task that runs.
+const CHAINS_ITSELF: [u8; 12] = [
+    0x13, 0x05, 0x00, 0x00, 0x93, 0x08, 0x30, 0x00, 0x73, 0x00, 0x00, 0x00,
+];
+
+/// GetResource of RES_SCHEDULER, and then TerminateTask.
+const ENDS_WITH_RESOURCE: [u8; 24] = [
+    0x13, 0x05, 0x00, 0x00, 0x93, 0x08, 0x40, 0x00, 0x73, 0x00, 0x00, 0x00, 0x13, 0x05, 0x00, 0x00,
+    0x93, 0x08, 0x20, 0x00, 0x73, 0x00, 0x00, 0x00,
+];
+
+/// DisableAllInterrupts, and then TerminateTask.
+const ENDS_UNDER_LOCK: [u8; 24] = [
+    0x13, 0x05, 0x00, 0x00, 0x93, 0x08, 0x60, 0x00, 0x73, 0x00, 0x00, 0x00, 0x13, 0x05, 0x00, 0x00,
+    0x93, 0x08, 0x20, 0x00, 0x73, 0x00, 0x00, 0x00,
+];
+
 const GOOD: &str =
     r#"{"bound":"13","denominator":"1","multipliers":["13","10","3","2","1","0","3","0","0"],"states":[[0,[[0,0]],[],0,0],[0,[[]],[],0,0]],"task":"T"}"#;
+
+/// The same with the end of the line.
+const GOOD_LINE: &str =
+    "{\"bound\":\"13\",\"denominator\":\"1\",\"multipliers\":[\"13\",\"10\",\"3\",\"2\",\"1\",\"0\",\"3\",\"0\",\"0\"],\"states\":[[0,[[0,0]],[],0,0],[0,[[]],[],0,0]],\"task\":\"T\"}\n";
 
 const BOUND_TOO_LOW: &str =
     r#"{"bound":"12","denominator":"1","multipliers":["13","10","3","2","1","0","3","0","0"],"states":[[0,[[0,0]],[],0,0],[0,[[]],[],0,0]],"task":"T"}"#;
@@ -35,13 +75,18 @@ const DENOMINATOR_ZERO: &str =
 /// The task at its block, and after its end.
 const CLOSED: &str = "[[0,[[0,0]],[],0,0],[0,[[]],[],0,0]]";
 
+/// The task at its first block, at its second one, and after its end.
+const CLOSED_WITH_TWO_BLOCKS: &str = "[[0,[[0,0]],[],0,0],[0,[[1,0]],[],0,0],[0,[[]],[],0,0]]";
+
+const WITH_RESOURCE: &str = "[[0,[[0,0]],[],0,0],[0,[[1,0,0]],[],0,0]]";
+
+const UNDER_LOCK: &str = "[[0,[[0,0]],[],0,0],[0,[[1,0]],[],1,0]]";
+
 const NOT_CLOSED: &str = "[[0,[[0,0]],[],0,0]]";
 
 const LISTED_TWICE: &str = "[[0,[[0,0]],[],0,0],[0,[[]],[],0,0],[0,[[0,0]],[],0,0]]";
 
 const NO_INITIAL: &str = "[[0,[[]],[],0,0]]";
-
-const UNDER_A_LOCK: &str = "[[0,[[0,0]],[],0,0],[0,[[]],[],0,0],[0,[[0,0]],[],1,0]]";
 
 const ONE_TASK: &str =
     "OIL_VERSION=\"2.5\";CPU A{APPMODE M;TASK T{PRIORITY=0x0A;AUTOSTART=TRUE{APPMODE=M;};};};";
@@ -87,6 +132,33 @@ const TWO_TASKS_TIMES: &str =
 const NO_TICKS: &str =
     r#"{"version":1,"classes":{"default":1},"services":{"default":20},"alarm":30,"interrupt":10}"#;
 
+/// The alarm comes as often as H and the alarm's own step take.
+const TOO_OFTEN: &str =
+    "OIL_VERSION = \"2.5\"; CPU Demo { APPMODE Main; COUNTER C { MINCYCLE = 1; }; TASK T { PRIORITY = 1; AUTOSTART = TRUE { APPMODE = Main; }; }; TASK H { PRIORITY = 2; }; ALARM Tick { COUNTER = C; ACTION = ACTIVATETASK { TASK = H; }; AUTOSTART = TRUE { CYCLETIME = 52; APPMODE = Main; }; }; };";
+
+/// It comes one cycle less often.
+const JUST_SELDOM_ENOUGH: &str =
+    "OIL_VERSION = \"2.5\"; CPU Demo { APPMODE Main; COUNTER C { MINCYCLE = 1; }; TASK T { PRIORITY = 1; AUTOSTART = TRUE { APPMODE = Main; }; }; TASK H { PRIORITY = 2; }; ALARM Tick { COUNTER = C; ACTION = ACTIVATETASK { TASK = H; }; AUTOSTART = TRUE { CYCLETIME = 53; APPMODE = Main; }; }; };";
+
+/// The states of the two tasks: T alone, both, none, H alone.
+const TWO_TASKS_CLOSED: &str =
+    "[[0,[[0,0],[]],[],0,0],[0,[[0,0],[1,0]],[],0,0],[0,[[],[]],[],0,0],[0,[[],[1,0]],[],0,0]]";
+
+/// Without the last one.
+const TWO_TASKS_NOT_CLOSED: &str =
+    "[[0,[[0,0],[]],[],0,0],[0,[[0,0],[1,0]],[],0,0],[0,[[],[]],[],0,0]]";
+
+const TWO_TASKS_GOOD: &str =
+    r#"{"bound":"133","denominator":"237","multipliers":["5750","5000","10000","750","500","250","0","500","250","0","750","0","0","500","0","13"],"states":[[0,[[0,0],[]],[],0,0],[0,[[0,0],[1,0]],[],0,0],[0,[[],[]],[],0,0],[0,[[],[1,0]],[],0,0]],"task":"T"}"#;
+
+const TWO_TASKS_TOO_LOW: &str =
+    r#"{"bound":"132","denominator":"237","multipliers":["5750","5000","10000","750","500","250","0","500","250","0","750","0","0","500","0","13"],"states":[[0,[[0,0],[]],[],0,0],[0,[[0,0],[1,0]],[],0,0],[0,[[],[]],[],0,0],[0,[[],[1,0]],[],0,0]],"task":"T"}"#;
+
+const TWO_TASKS_NO_STATE_AFTER: &str =
+    r#"{"bound":"133","denominator":"237","multipliers":["5750","5000","10000","750","500","250","0","500","250","0","750","0","0","500","0","13"],"states":[[0,[[0,0],[]],[],0,0],[0,[[0,0],[1,0]],[],0,0],[0,[[],[]],[],0,0]],"task":"T"}"#;
+
+const TWO_TASKS_RAY: &str = "unbounded\n1 1\n4 1\n8 1\n9 1\n10 1\n";
+
 /// Which calls fail.
 #[derive(Clone, Copy)]
 enum Failing {
@@ -123,24 +195,19 @@ fn outcome(
     Ok((status, out))
 }
 
-/// Runs the words over the image `a`, its first 15 bytes `b`, the image without its last word, `d`, and the
-/// text beside the image, which both `c` and `k` hold, and compares the status and what was written.
-fn run_row(
+/// Runs the words over the image `a` and the text beside it, `k`, and compares the status and what was
+/// written.
+fn run_lone(
     rt: &impl Abort,
     alloc: Global,
     words: &str,
+    image: &[u8],
     beside: &str,
     failing: Failing,
     text: &str,
     status: Status,
 ) -> Result<(), Memory> {
-    let held = [
-        ("a", IMAGE.as_slice()),
-        ("b", &IMAGE[..15]),
-        ("d", &IMAGE[..12]),
-        ("c", beside.as_bytes()),
-        ("k", beside.as_bytes()),
-    ];
+    let held = [("a", image), ("k", beside.as_bytes())];
     let (ended, out) = outcome(alloc, words, &held, failing)?;
     assert_eq!(rt; ended, status);
     assert_eq!(rt; out.written(), text.as_bytes());
@@ -149,55 +216,91 @@ fn run_row(
 
 #[test]
 #[rattlefmt::skip]
-fn a_certificate_is_judged_from_bytes_to_the_answer(rt: HostRuntime) -> Result<(), Fail> {
-    for (words, certificate, failing, text, status) in [
-        ("check lone a c", GOOD, Failing::Nothing, "yes T 13\n", Status::Ok),
-        ("check lone a c", BOUND_TOO_LOW, Failing::Nothing, "no bound\n", Status::No),
-        ("check lone a c", MULTIPLIER_TOO_LOW, Failing::Nothing, "no column 3\n", Status::No),
-        ("check lone a c", ONE_MULTIPLIER_LESS, Failing::Nothing, "no count 8 9\n", Status::No),
-        ("check lone a c", NO_STATE_AFTER, Failing::Nothing, "no state 0 transition 0\n", Status::No),
-        ("check lone a c", DENOMINATOR_ZERO, Failing::Nothing, "input c\n", Status::Input),
-        ("check lone b c", GOOD, Failing::Nothing, "elf Unaligned\n", Status::Input),
-        ("check lone d c", GOOD, Failing::Nothing, "input d\n", Status::Input),
-        // The image's fault is answered before the certificate is read.
-        ("check lone d none", GOOD, Failing::Nothing, "input d\n", Status::Input),
-        ("check lone a none", GOOD, Failing::Nothing, "read none\n", Status::ReadFault),
-        ("bound a b", GOOD, Failing::Nothing, "words\n", Status::Words),
-        ("check lone a c", GOOD, Failing::Read, "read a\n", Status::ReadFault),
-        ("check lone a c", GOOD, Failing::Write, "", Status::WriteFault),
-        ("check lone a c", GOOD, Failing::Both, "", Status::WriteFault),
+fn tasks_of_flat_images_are_bounded(rt: HostRuntime) -> Result<(), Fail> {
+    for (words, image, states, text, status) in [
+        ("bound lone a k", IMAGE.as_slice(), CLOSED, "T 13\n", Status::Ok),
+        ("bound lone a k", b"".as_slice(), CLOSED, "code T 00000000 Leaves\n", Status::Input),
+        ("bound lone a k", ROUND_AND_ROUND.as_slice(), CLOSED, "code T 00000000 UncoveredBack\n", Status::Input),
+        ("bound lone a k", CALLS_ITSELF.as_slice(), CLOSED, "code T 00000000 Recursion\n", Status::Input),
+        ("bound lone a k", INTO_SERVICE.as_slice(), CLOSED, "code T 00000000 IntoService\n", Status::Input),
+        ("bound lone a k", ACTIVATES_ITSELF.as_slice(), CLOSED_WITH_TWO_BLOCKS, "T 24\n", Status::Ok),
+        ("bound lone a k", CHAINS_ITSELF.as_slice(), CLOSED, "T 22\n", Status::Ok),
+        ("bound lone a k", ENDS_WITH_RESOURCE.as_slice(), WITH_RESOURCE, "no misuse state 1 code 6\n", Status::No),
+        ("bound lone a k", ENDS_UNDER_LOCK.as_slice(), UNDER_LOCK, "no misuse state 1 code 2\n", Status::No),
+        ("certify lone a k", IMAGE.as_slice(), CLOSED, GOOD_LINE, Status::Ok),
+        ("bound lone a k --pivots 1", IMAGE.as_slice(), CLOSED, "budget pivots 1\n", Status::Budget),
+        ("bound lone a k --pivots 0010000000", IMAGE.as_slice(), CLOSED, "T 13\n", Status::Ok),
+        ("bound lone a k", IMAGE.as_slice(), NOT_CLOSED, "no state 0 transition 0\n", Status::No),
+        ("certify lone a k --pivots 1", IMAGE.as_slice(), NO_INITIAL, "no initial Main\n", Status::No),
+        ("bound lone a k", IMAGE.as_slice(), LISTED_TWICE, "states State\n", Status::Input),
+        ("bound lone a k", IMAGE.as_slice(), "[", "states Json\n", Status::Input),
+        ("bound lone a k", &IMAGE[..15], "[", "elf Unaligned\n", Status::Input),
     ] {
-        run_row(&rt, rt.alloc(), words, certificate, failing, text, status)?;
+        run_lone(&rt, rt.alloc(), words, image, states, Failing::Nothing, text, status)?;
     }
     Ok(())
 }
 
 #[test]
 #[rattlefmt::skip]
-fn the_greatest_value_of_the_rows_is_found(rt: HostRuntime) -> Result<(), Fail> {
-    for (words, states, failing, text, status) in [
-        ("bound lone a k", CLOSED, Failing::Nothing, "T 13\n", Status::Ok),
-        ("bound lone a k --pivots 1", CLOSED, Failing::Nothing, "budget pivots 1\n", Status::Budget),
-        ("bound lone a k --pivots 0010000000", CLOSED, Failing::Nothing, "T 13\n", Status::Ok),
-        ("bound lone a k", NOT_CLOSED, Failing::Nothing, "no state 0 transition 0\n", Status::No),
-        ("bound lone a k --pivots 1", NO_INITIAL, Failing::Nothing, "no initial Main\n", Status::No),
-        ("bound lone a k", UNDER_A_LOCK, Failing::Nothing, "no misuse state 2 code 2\n", Status::No),
-        ("bound lone a k", LISTED_TWICE, Failing::Nothing, "input k\n", Status::Input),
-        ("bound lone a k", "[", Failing::Nothing, "input k\n", Status::Input),
-        ("bound lone b k", CLOSED, Failing::Nothing, "elf Unaligned\n", Status::Input),
-        ("bound lone d k", "[", Failing::Nothing, "input d\n", Status::Input),
-        ("bound lone a k", CLOSED, Failing::Read, "read a\n", Status::ReadFault),
-        ("bound lone a k", CLOSED, Failing::Write, "", Status::WriteFault),
-        ("bound lone --pivots 5", CLOSED, Failing::Nothing, "read --pivots\n", Status::ReadFault),
+fn certificates_of_flat_images_are_judged(rt: HostRuntime) -> Result<(), Fail> {
+    for (words, certificate, failing, text, status) in [
+        ("check lone a k", GOOD, Failing::Nothing, "yes T 13\n", Status::Ok),
+        ("check lone a k", BOUND_TOO_LOW, Failing::Nothing, "no bound\n", Status::No),
+        ("check lone a k", MULTIPLIER_TOO_LOW, Failing::Nothing, "no column 3\n", Status::No),
+        ("check lone a k", ONE_MULTIPLIER_LESS, Failing::Nothing, "no count 8 9\n", Status::No),
+        ("check lone a k", NO_STATE_AFTER, Failing::Nothing, "no state 0 transition 0\n", Status::No),
+        ("check lone a k", DENOMINATOR_ZERO, Failing::Nothing, "cert Range\n", Status::Input),
+        ("check lone a none", GOOD, Failing::Nothing, "read none\n", Status::ReadFault),
+        ("check lone a k", GOOD, Failing::Read, "read a\n", Status::ReadFault),
+        ("check lone a k", GOOD, Failing::Write, "", Status::WriteFault),
+        ("check lone a k", GOOD, Failing::Both, "", Status::WriteFault),
+        ("bound a b", GOOD, Failing::Nothing, "words\n", Status::Words),
         ("bound lone a", CLOSED, Failing::Nothing, "words\n", Status::Words),
+        ("bound lone --pivots 5", CLOSED, Failing::Nothing, "read --pivots\n", Status::ReadFault),
         ("bound lone a k --pivots", CLOSED, Failing::Nothing, "words\n", Status::Words),
         ("bound lone a k --pivots 0", CLOSED, Failing::Nothing, "words\n", Status::Words),
         ("bound lone a k --pivots 10000001", CLOSED, Failing::Nothing, "words\n", Status::Words),
-        ("bound lone a k --pivots 00000000001", CLOSED, Failing::Nothing, "words\n", Status::Words),
+        ("certify lone a k --pivots 00000000001", CLOSED, Failing::Nothing, "words\n", Status::Words),
         ("bound lone a k --pivots +1", CLOSED, Failing::Nothing, "words\n", Status::Words),
         ("bound lone a k --pivot 1", CLOSED, Failing::Nothing, "words\n", Status::Words),
     ] {
-        run_row(&rt, rt.alloc(), words, states, failing, text, status)?;
+        run_lone(&rt, rt.alloc(), words, &IMAGE, certificate, failing, text, status)?;
+    }
+    Ok(())
+}
+
+#[test]
+#[rattlefmt::skip]
+fn tasks_of_systems_are_bounded(rt: HostRuntime) -> Result<(), Fail> {
+    for (words, oil, beside, text, status) in [
+        ("bound oil elf times T k", TWO_TASKS, TWO_TASKS_CLOSED, "T 133\n", Status::Ok),
+        ("bound oil elf times T k", TOO_OFTEN, TWO_TASKS_CLOSED, TWO_TASKS_RAY, Status::Unbounded),
+        ("bound oil elf times T k", JUST_SELDOM_ENOUGH, TWO_TASKS_CLOSED, "T 6731\n", Status::Ok),
+        ("bound oil elf times T k", TWO_TASKS, TWO_TASKS_NOT_CLOSED, "no state 2 transition 0\n", Status::No),
+        ("bound oil elf times T k --pivots 1", TWO_TASKS, TWO_TASKS_CLOSED, "budget pivots 1\n", Status::Budget),
+        ("all oil elf times k", TWO_TASKS, TWO_TASKS_CLOSED, "T 133\nH 84\n", Status::Ok),
+        ("all oil elf times k", TOO_OFTEN, TWO_TASKS_CLOSED, TWO_TASKS_RAY, Status::Unbounded),
+        ("check oil elf times T k", TWO_TASKS, TWO_TASKS_GOOD, "yes T 133\n", Status::Ok),
+        ("check oil elf times T k", TWO_TASKS, TWO_TASKS_TOO_LOW, "no bound\n", Status::No),
+        ("check oil elf times T k", TWO_TASKS, TWO_TASKS_NO_STATE_AFTER, "no state 2 transition 0\n", Status::No),
+        ("check oil elf times H k", TWO_TASKS, TWO_TASKS_GOOD, "cert Task\n", Status::Input),
+        ("bound oil elf times T k", ONE_PRIORITY_FOR_TWO, TWO_TASKS_CLOSED, "model object 3 SamePriority\n", Status::Input),
+        ("bound oil elf no_ticks T k", TWO_TASKS, TWO_TASKS_CLOSED, "code - - Name\n", Status::Input),
+        ("bound oil elf times X k", TWO_TASKS, TWO_TASKS_CLOSED, "task\n", Status::Input),
+        // The timing's fault comes before the name's.
+        ("bound oil elf oil X k", TWO_TASKS, TWO_TASKS_CLOSED, "timing Json\n", Status::Input),
+    ] {
+        let held = [
+            ("oil", oil.as_bytes()),
+            ("elf", TWO_TASKS_ELF.as_slice()),
+            ("times", TWO_TASKS_TIMES.as_bytes()),
+            ("no_ticks", NO_TICKS.as_bytes()),
+            ("k", beside.as_bytes()),
+        ];
+        let (ended, out) = outcome(rt.alloc(), words, &held, Failing::Nothing)?;
+        assert_eq!(rt; ended, status);
+        assert_eq!(rt; out.written(), text.as_bytes());
     }
     Ok(())
 }
@@ -238,21 +341,6 @@ fn a_file_past_its_limit_is_refused_by_its_length(rt: HostRuntime) -> Result<(),
     let (ended, out) = shown(rt.alloc(), text.as_slice(), Failing::Nothing)?;
     assert_eq!(rt; ended, Status::Input);
     assert_eq!(rt; out.written(), b"long a 1048577\n".as_slice());
-    Ok(())
-}
-
-#[test]
-fn rows_without_a_greatest_value_are_refused(rt: HostRuntime) -> Result<(), Fail> {
-    let costs = Row::from_slice(rt.alloc(), &[0, 1])?;
-    let mut rows = Rows::made(rt.alloc(), &costs)?;
-    rows.push_row(&Terms::new(rt.alloc()), 1)?;
-    match bound_of(rt.alloc(), "T", &rows, 9) {
-        Err(Halt::Refused(refusal)) => {
-            assert_eq!(rt; refusal.reason, Reason::Unbounded);
-            assert_eq!(rt; refusal.text.as_slice(), b"unbounded\n1 1\n".as_slice());
-        }
-        _ => return Err("the rows have no greatest value")?,
-    }
     Ok(())
 }
 

@@ -1,45 +1,89 @@
 //! What the command words ask for.
-ghost use Rattle.std.specs.Prelude.{◌≡◌, ◌<◌, ◌≤◌, ◌&&◌, nat_lt, nat_le, length, bytes_eq, IfOk};
+ghost use Rattle.std.specs.Prelude.{◌≡◌, ◌<◌, ◌≤◌, ◌&&◌, if◌then◌else◌, nat_lt, nat_le, length, bytes_eq, Some, None, IfOk, IfSome};
 ghost use Rattle.std.specs.Char.{is_ascii_digit};
 ghost use Rattle.std.specs.List.{list_all};
 ghost use Rattle.std.specs.Option.{option_map};
-ghost use Rattle.syswcet.specs.Words.{word, check_lone, bound_lone, show_oil, show_code, replay, command_of, is_single, is_shape, is_number, number_of, pivots_of};
+ghost use Rattle.syswcet.specs.declared.words.Subject.TheVariants.{Lone, Named};
+ghost use Rattle.syswcet.specs.Words as shapes;
+ghost use Rattle.syswcet.specs.Words.{word, place_behind};
+ghost use Rattle.syswcet.specs.Subjects.{name_of};
 
 use listed::Memory;
 use std::alloc::Global;
 use wcet_io::{Text, Words};
 
 /// The limit on pivots where the words name none, and the greatest that they may name.
-const USUAL_PIVOTS: u32 = 100_000;
+pub const USUAL_PIVOTS: u32 = 100_000;
 
 const MOST_PIVOTS: u64 = 10_000_000;
+
+/// What is analysed.
+#[derive(Debug, Drop)]
+pub enum Subject {
+    /// The task of a flat image, which is named `T`.
+    Lone {
+        image: Text,
+    },
+    /// The task of this name in the system that the three files make.
+    Named {
+        oil: Text,
+        elf: Text,
+        timing: Text,
+        task: Text,
+    },
+}
+
+impl Subject {
+    /// The name of the task.
+    pub fn name(&self) -> &str
+        ensures { result.now ≡ name_of self.now }
+    {
+        match self {
+            Subject::Lone { .. } => "T",
+            Subject::Named { task, .. } => task.as_str(),
+        }
+    }
+}
 
 /// A command, with its files by name.
 #[derive(Debug, Drop)]
 pub enum Command {
-    /// `check lone IMAGE CERT` judges a certificate of a lone image.
-    CheckLone {
-        image: Text,
+    /// `check` judges a certificate.
+    Check {
+        subject: Subject,
         certificate: Text,
     },
-    /// `bound lone IMAGE STATES` finds the greatest value of the rows of a lone image, with at most
-    /// that many pivots, which `--pivots N` sets.
-    BoundLone {
-        image: Text,
+    /// `bound` finds the task's bound over a list of scheduler states, with at most that many
+    /// pivots, which `--pivots N` sets.
+    Bound {
+        subject: Subject,
         states: Text,
         pivots: u32,
     },
-    /// `show oil OIL` writes an OIL file in the one layout.
+    /// `certify` writes a certificate for that bound.
+    Certify {
+        subject: Subject,
+        states: Text,
+        pivots: u32,
+    },
+    /// `all` finds the bound of each task of a system.
+    All {
+        oil: Text,
+        elf: Text,
+        timing: Text,
+        states: Text,
+    },
+    /// `show oil` writes an OIL file in the one layout.
     ShowOil {
         oil: Text,
     },
-    /// `show code OIL ELF TIMING` tells how many nodes, blocks and loops each context has.
+    /// `show code` tells how many nodes, blocks and loops each context has.
     ShowCode {
         oil: Text,
         elf: Text,
         timing: Text,
     },
-    /// `replay OIL ELF TIMING SCHEDULE` plays a schedule, and tells how long each activation lasts.
+    /// `replay` plays a schedule, and tells how long each activation lasts.
     Replay {
         oil: Text,
         elf: Text,
@@ -50,16 +94,19 @@ pub enum Command {
 
 /// The command of the words; `None` exactly where they have no shape.
 pub fn command_of(alloc: Global, words: &Words) -> Result<Option<Command>, Memory>
-    ensures { IfOk result (λ command. command ≡ command_of words.now) }
+    ensures { IfOk result (λ command. command ≡ shapes.command_of words.now) }
 {
-    if is_shape(words, "check", "lone", 4) {
-        return check_lone(alloc, words);
+    if has_word(words, 0, "check") {
+        return check(alloc, words);
     }
-    if is_shape(words, "bound", "lone", 4) {
-        return bound_lone(alloc, words, Some(USUAL_PIVOTS));
+    if has_word(words, 0, "bound") {
+        return bound(alloc, words);
     }
-    if is_shape(words, "bound", "lone", 6) && is(words.get(4), "--pivots") {
-        return bound_lone(alloc, words, pivots_of(words.get(5)));
+    if has_word(words, 0, "certify") {
+        return certify(alloc, words);
+    }
+    if is_single(words, "all", 5) {
+        return all(alloc, words);
     }
     if is_shape(words, "show", "oil", 3) {
         return show_oil(alloc, words);
@@ -73,26 +120,32 @@ pub fn command_of(alloc: Global, words: &Words) -> Result<Option<Command>, Memor
     Ok(None)
 }
 
-fn check_lone(alloc: Global, words: &Words) -> Result<Option<Command>, Memory>
-    requires { length words.now ≡ 4 }
-    ensures { IfOk result (λ command. command ≡ Some (check_lone words.now)) }
+fn check(alloc: Global, words: &Words) -> Result<Option<Command>, Memory>
+    ensures { IfOk result (λ command. command
+        ≡ (if shapes.is_last words.now then Some (shapes.check words.now) else None)) }
 {
-    let image = word(alloc, words, 2)?;
-    let certificate = word(alloc, words, 3)?;
-    Ok(Some(Command::CheckLone { image, certificate }))
+    if !is_last(words) {
+        return Ok(None);
+    }
+    let subject = subject_of(alloc, words)?;
+    let certificate = file_of(alloc, words)?;
+    Ok(Some(Command::Check {
+        subject,
+        certificate,
+    }))
 }
 
-/// The command with its limit on pivots, if the words name one.
-fn bound_lone(alloc: Global, words: &Words, pivots: Option<u32>) -> Result<Option<Command>, Memory>
-    requires { 4 ≤ length words.now }
-    ensures { IfOk result (λ command. command ≡ option_map (bound_lone words.now) pivots) }
+/// The command with its limit on pivots, if the words set one.
+fn bound(alloc: Global, words: &Words) -> Result<Option<Command>, Memory>
+    ensures { IfOk result (λ command. command
+        ≡ option_map (shapes.bound words.now) (shapes.limit_of words.now)) }
 {
-    match pivots {
+    match limit_of(words) {
         Some(pivots) => {
-            let image = word(alloc, words, 2)?;
-            let states = word(alloc, words, 3)?;
-            Ok(Some(Command::BoundLone {
-                image,
+            let subject = subject_of(alloc, words)?;
+            let states = file_of(alloc, words)?;
+            Ok(Some(Command::Bound {
+                subject,
                 states,
                 pivots,
             }))
@@ -101,9 +154,43 @@ fn bound_lone(alloc: Global, words: &Words, pivots: Option<u32>) -> Result<Optio
     }
 }
 
+fn certify(alloc: Global, words: &Words) -> Result<Option<Command>, Memory>
+    ensures { IfOk result (λ command. command
+        ≡ option_map (shapes.certify words.now) (shapes.limit_of words.now)) }
+{
+    match limit_of(words) {
+        Some(pivots) => {
+            let subject = subject_of(alloc, words)?;
+            let states = file_of(alloc, words)?;
+            Ok(Some(Command::Certify {
+                subject,
+                states,
+                pivots,
+            }))
+        }
+        None => Ok(None),
+    }
+}
+
+fn all(alloc: Global, words: &Words) -> Result<Option<Command>, Memory>
+    requires { length words.now ≡ 5 }
+    ensures { IfOk result (λ command. command ≡ Some (shapes.all words.now)) }
+{
+    let oil = word(alloc, words, 1)?;
+    let elf = word(alloc, words, 2)?;
+    let timing = word(alloc, words, 3)?;
+    let states = word(alloc, words, 4)?;
+    Ok(Some(Command::All {
+        oil,
+        elf,
+        timing,
+        states,
+    }))
+}
+
 fn show_oil(alloc: Global, words: &Words) -> Result<Option<Command>, Memory>
     requires { length words.now ≡ 3 }
-    ensures { IfOk result (λ command. command ≡ Some (show_oil words.now)) }
+    ensures { IfOk result (λ command. command ≡ Some (shapes.show_oil words.now)) }
 {
     let oil = word(alloc, words, 2)?;
     Ok(Some(Command::ShowOil { oil }))
@@ -111,7 +198,7 @@ fn show_oil(alloc: Global, words: &Words) -> Result<Option<Command>, Memory>
 
 fn show_code(alloc: Global, words: &Words) -> Result<Option<Command>, Memory>
     requires { length words.now ≡ 5 }
-    ensures { IfOk result (λ command. command ≡ Some (show_code words.now)) }
+    ensures { IfOk result (λ command. command ≡ Some (shapes.show_code words.now)) }
 {
     let oil = word(alloc, words, 2)?;
     let elf = word(alloc, words, 3)?;
@@ -121,7 +208,7 @@ fn show_code(alloc: Global, words: &Words) -> Result<Option<Command>, Memory>
 
 fn replay(alloc: Global, words: &Words) -> Result<Option<Command>, Memory>
     requires { length words.now ≡ 5 }
-    ensures { IfOk result (λ command. command ≡ Some (replay words.now)) }
+    ensures { IfOk result (λ command. command ≡ Some (shapes.replay words.now)) }
 {
     let oil = word(alloc, words, 1)?;
     let elf = word(alloc, words, 2)?;
@@ -135,6 +222,94 @@ fn replay(alloc: Global, words: &Words) -> Result<Option<Command>, Memory>
     }))
 }
 
+/// What the words analyse.
+fn subject_of(alloc: Global, words: &Words) -> Result<Subject, Memory>
+    requires { place_behind words.now < length words.now }
+    ensures { IfOk result (λ subject. subject ≡ shapes.subject_of words.now) }
+{
+    if is_lone(words) {
+        lone(alloc, words)
+    } else {
+        named(alloc, words)
+    }
+}
+
+fn lone(alloc: Global, words: &Words) -> Result<Subject, Memory>
+    requires { 2 < length words.now }
+    ensures { IfOk result (λ subject. subject ≡ Lone (word words.now 2)) }
+{
+    let image = word(alloc, words, 2)?;
+    Ok(Subject::Lone { image })
+}
+
+fn named(alloc: Global, words: &Words) -> Result<Subject, Memory>
+    requires { 4 < length words.now }
+    ensures { IfOk result (λ subject. subject ≡ Named (word words.now 1) (word words.now 2)
+        (word words.now 3) (word words.now 4)) }
+{
+    let oil = word(alloc, words, 1)?;
+    let elf = word(alloc, words, 2)?;
+    let timing = word(alloc, words, 3)?;
+    let task = word(alloc, words, 4)?;
+    Ok(Subject::Named {
+        oil,
+        elf,
+        timing,
+        task,
+    })
+}
+
+fn is_lone(words: &Words) -> bool
+    ensures { result ≡ shapes.is_lone words.now }
+{
+    has_word(words, 1, "lone")
+}
+
+/// The place of the word behind what is analysed.
+fn place_behind(words: &Words) -> usize
+    ensures place { result ≡ place_behind words.now }
+    ensures few { result ≤ 5 }
+{
+    if is_lone(words) { 3 } else { 5 }
+}
+
+/// That word, which names a file.
+fn file_of(alloc: Global, words: &Words) -> Result<Text, Memory>
+    requires { place_behind words.now < length words.now }
+    ensures { IfOk result (λ text. text ≡ shapes.file_of words.now) }
+{
+    word(alloc, words, place_behind(words))
+}
+
+/// Whether that word is the last one.
+fn is_last(words: &Words) -> bool
+    ensures { result ≡ shapes.is_last words.now }
+{
+    words.len() == place_behind(words) + 1
+}
+
+/// Whether `--pivots N` stands behind it, and nothing else.
+fn has_option(words: &Words) -> bool
+    ensures { result ≡ shapes.has_option words.now }
+{
+    let place = place_behind(words);
+    words.len() == place + 3 && has_word(words, place + 1, "--pivots")
+}
+
+/// The limit on pivots that the words behind the file set, if they set one.
+fn limit_of(words: &Words) -> Option<u32>
+    ensures limit { result ≡ shapes.limit_of words.now }
+    ensures behind { IfSome result (λ _. place_behind words.now < length words.now) }
+{
+    if is_last(words) {
+        return Some(USUAL_PIVOTS);
+    }
+    if has_option(words) {
+        return pivots_of(words.get(place_behind(words) + 2));
+    }
+    None
+}
+
 /// The word at a place, counted from 0.
 fn word(alloc: Global, words: &Words, place: usize) -> Result<Text, Memory>
     requires { place < length words.now }
@@ -143,20 +318,25 @@ fn word(alloc: Global, words: &Words, place: usize) -> Result<Text, Memory>
     Text::from_str(alloc, words.get(place).as_str())
 }
 
-/// Whether there are so many words, two at least, and the first two are these.
+/// Whether there are so many words, the first two of which are these.
 fn is_shape(words: &Words, first: &str, second: &str, count: usize) -> bool
-    requires { 2 ≤ count }
-    ensures { result ≡ is_shape words.now first.now second.now count }
+    ensures { result ≡ shapes.is_shape words.now first.now second.now count }
 {
-    words.len() == count && is(words.get(0), first) && is(words.get(1), second)
+    is_single(words, first, count) && has_word(words, 1, second)
 }
 
-/// Whether there are so many words, one at least, and the first one is this.
+/// Whether there are so many words, the first of which is this.
 fn is_single(words: &Words, first: &str, count: usize) -> bool
-    requires { 1 ≤ count }
-    ensures { result ≡ is_single words.now first.now count }
+    ensures { result ≡ shapes.is_single words.now first.now count }
 {
-    words.len() == count && is(words.get(0), first)
+    words.len() == count && has_word(words, 0, first)
+}
+
+/// Whether there is a word at the place, and it is that text.
+fn has_word(words: &Words, place: usize, text: &str) -> bool
+    ensures { result ≡ shapes.has_word words.now place text.now }
+{
+    place < words.len() && is(words.get(place), text)
 }
 
 /// Whether the word is that text.
@@ -168,7 +348,7 @@ fn is(word: &Text, text: &str) -> bool
 
 /// The limit on pivots that a word names, if it names one.
 fn pivots_of(word: &Text) -> Option<u32>
-    ensures { result ≡ pivots_of word.now }
+    ensures { result ≡ shapes.pivots_of word.now }
 {
     let pivots = number_of(word.as_str())?;
     if 1 <= pivots && pivots <= MOST_PIVOTS {
@@ -180,7 +360,7 @@ fn pivots_of(word: &Text) -> Option<u32>
 
 /// The number that a text writes in 1 to 10 decimal digits.
 fn number_of(text: &str) -> Option<u64>
-    ensures { result ≡ number_of text.now }
+    ensures { result ≡ shapes.number_of text.now }
 {
     if !is_number(text.as_bytes()) {
         return None;
@@ -189,7 +369,7 @@ fn number_of(text: &str) -> Option<u64>
 }
 
 fn is_number(text: &[u8]) -> bool
-    ensures { result ≡ is_number text.now }
+    ensures { result ≡ shapes.is_number text.now }
 {
     has_length(text) && all_digits(text)
 }

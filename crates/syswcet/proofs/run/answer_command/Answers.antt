@@ -4,15 +4,25 @@ use Rattle.syswcet.specs.declared.words.Command.{Command}
 use Rattle.syswcet.specs.Commands.{StepsOf}
 use Rattle.syswcet.proofs.run.answer_command.Goals as goal
 
-pub returns-in-CheckLone : goal.returns-in-CheckLone
-returns-in-CheckLone g c =
-    let P : Command → Type 0 = λ k. StepsOf (IsCall g.F.Files.outside g.F.Files.reads) (Some k) c.args.files.now c.check_lone.result c.check_lone.new.files in
-    subst P (sym c.in-CheckLone.is) c.check_lone.ensures
+pub returns-in-Check : goal.returns-in-Check
+returns-in-Check g c =
+    let P : Command → Type 0 = λ k. StepsOf (IsCall g.F.Files.outside g.F.Files.reads) (Some k) c.args.files.now c.checked.result c.checked.new.files in
+    subst P (sym c.in-Check.is) c.checked.ensures
 
-pub returns-in-BoundLone : goal.returns-in-BoundLone
-returns-in-BoundLone g c =
-    let P : Command → Type 0 = λ k. StepsOf (IsCall g.F.Files.outside g.F.Files.reads) (Some k) c.args.files.now c.bound_lone.result c.bound_lone.new.files in
-    subst P (sym c.in-BoundLone.is) c.bound_lone.ensures
+pub returns-in-Bound : goal.returns-in-Bound
+returns-in-Bound g c =
+    let P : Command → Type 0 = λ k. StepsOf (IsCall g.F.Files.outside g.F.Files.reads) (Some k) c.args.files.now c.bounded.result c.bounded.new.files in
+    subst P (sym c.in-Bound.is) c.bounded.ensures
+
+pub returns-in-Certify : goal.returns-in-Certify
+returns-in-Certify g c =
+    let P : Command → Type 0 = λ k. StepsOf (IsCall g.F.Files.outside g.F.Files.reads) (Some k) c.args.files.now c.certified.result c.certified.new.files in
+    subst P (sym c.in-Certify.is) c.certified.ensures
+
+pub returns-in-All : goal.returns-in-All
+returns-in-All g c =
+    let P : Command → Type 0 = λ k. StepsOf (IsCall g.F.Files.outside g.F.Files.reads) (Some k) c.args.files.now c.all_bounds.result c.all_bounds.new.files in
+    subst P (sym c.in-All.is) c.all_bounds.ensures
 
 pub returns-in-ShowCode : goal.returns-in-ShowCode
 returns-in-ShowCode g c =
