@@ -34,6 +34,7 @@ stops plant states total task before after (Refused refusal) adds below rest =
 stops plant states total task before after (Failed name) adds below rest = adds
 stops plant states total task before after Memory adds below rest = tt
 
-pub ends : (plant : PlantData) (states : List AbsState) (total : ℕ) (text : List ℕ) → Continues plant states total total text
-    → AnswersFrom plant states total 0 [] (Ok text)
-ends plant states total text rest = rest 0 (Ok text) (omega arith) refl
+pub ends : (plant : PlantData) (states : List AbsState) (total task : ℕ) (text given : List ℕ) → task ≡ total → given ≡ text
+    → Continues plant states total task text → AnswersFrom plant states total 0 [] (Ok given)
+ends plant states total task text given last same rest =
+    subst (λ (t : List ℕ). AnswersFrom plant states total 0 [] (Ok t)) (sym same) (rest 0 (Ok text) (omega arith) refl)

@@ -15,9 +15,9 @@ returns g c =
     let analysed = c.args.analysed.now in
     let listed = c.in_ok-listed.listed in
     let named = subst
-        (λ (name : List ℕ). Says (AnswersTask (bound_saying name) c.args.pivots analysed c.as_slice.result.now) c.bound_line.result)
-        c.as_bytes-name.ensures c.bound_line.ensures in
+    (λ (name : List ℕ). Says (AnswersTask (bound_saying name) c.args.pivots analysed c.as_slice.result.now) c.bound_line.result)
+    c.as_bytes-name.ensures.value c.bound_line.ensures in
     let says = subst
-        (λ (states : List AbsState). Says (AnswersTask (bound_saying c.args.name.now) c.args.pivots analysed states) c.bound_line.result)
-        c.as_slice.ensures named in
-    inl (listed, c.closed_states.new.files, c.in_ok-listed.ensures.steps, refl, says)
+    (λ (states : List AbsState). Says (AnswersTask (bound_saying c.args.name.now) c.args.pivots analysed states) c.bound_line.result)
+    c.as_slice.ensures named in
+    inl (listed, c.closed_states.new.files, c.in_ok-listed.ensures.steps, (refl, says))

@@ -17,9 +17,9 @@ returns c =
     let pivots = c.args.pivots in
     let found = c.bound_of-found.result in
     let outcome = subst (λ (s : List AbsState). SaysOutcome (solved_rows plant s task) pivots (bound_outcome plant s task pivots) found)
-        c.as_slice.ensures c.bound_of-found.ensures.outcome in
+    c.as_slice.ensures c.bound_of-found.ensures.outcome in
     let optimum = subst (λ (s : List AbsState). IfOk found (λ o. IsOptimum (rows_of plant s task) o.multipliers o.denominator o.bound))
-        c.as_slice.ensures c.bound_of-found.ensures.optimum in
+    c.as_slice.ensures c.bound_of-found.ensures.optimum in
     let ray = subst (λ (s : List AbsState). IfErr found (IsUnboundedFault (rows_of plant s task))) c.as_slice.ensures c.bound_of-found.ensures.ray in
     outcome_said (cert_saying c.args.name.now task states) (rows_of plant states task) (solved_rows plant states task) pivots
     (bound_outcome plant states task pivots) found c.certificate_found.result outcome optimum ray c.certificate_found.ensures
