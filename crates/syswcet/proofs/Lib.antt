@@ -1,7 +1,5 @@
 pub mod Numbers
 pub mod Solved
-pub mod Refused
-pub mod Closing
 pub mod TaskLines
 pub mod Commands
 pub mod Headline

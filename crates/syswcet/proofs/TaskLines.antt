@@ -17,12 +17,13 @@ Continues plant states total task text =
 
 pub begins : (plant : PlantData) (states : List AbsState) (total : ℕ) (text : List ℕ) → text ≡ [] → Continues plant states total 0 text
 begins plant states total text empty count given is answers =
-    subst (λ (n : ℕ). AnswersFrom plant states n 0 [] given) is (subst (λ (t : List ℕ). AnswersFrom plant states count 0 t given) empty answers)
+    let same : count ≡ total = omega arith in
+    subst (λ (n : ℕ). AnswersFrom plant states n 0 [] given) same (subst (λ (t : List ℕ). AnswersFrom plant states count 0 t given) empty answers)
 
 pub goes_on : (plant : PlantData) (states : List AbsState) (total task : ℕ) (before after : List ℕ)
     → AddsLine plant states task before after (Ok tt) → Continues plant states total task before → Continues plant states total (task + 1) after
 goes_on plant states total task before after adds rest count given is answers =
-    let here = subst (λ (n : ℕ). AnswersFrom plant states count n after given) add-one answers in
+    let here = subst (λ (n : ℕ). AnswersFrom plant states count n after given) (add-one task) answers in
     rest (suc count) given (omega arith) (inl (adds.0, adds.1, subst (λ (t : List ℕ). AnswersFrom plant states count (suc task) t given) adds.2 here))
 
 pub stops : (plant : PlantData) (states : List AbsState) (total task : ℕ) (before after : List ℕ) (halt : Halt)
@@ -33,6 +34,7 @@ stops plant states total task before after (Refused refusal) adds below rest =
 stops plant states total task before after (Failed name) adds below rest = adds
 stops plant states total task before after Memory adds below rest = tt
 
-pub ends : (plant : PlantData) (states : List AbsState) (total : ℕ) (text : List ℕ) → Continues plant states total total text
-    → AnswersFrom plant states total 0 [] (Ok text)
-ends plant states total text rest = rest 0 (Ok text) (omega arith) refl
+pub ends : (plant : PlantData) (states : List AbsState) (total task : ℕ) (text given : List ℕ) → task ≡ total → given ≡ text
+    → Continues plant states total task text → AnswersFrom plant states total 0 [] (Ok given)
+ends plant states total task text given last same rest =
+    subst (λ (t : List ℕ). AnswersFrom plant states total 0 [] (Ok t)) (sym same) (rest 0 (Ok text) (omega arith) refl)

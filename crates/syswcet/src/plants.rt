@@ -119,7 +119,12 @@ fn timing_in(alloc: Global, bytes: &Bytes) -> Result<Timing, Halt>
 }
 
 /// The plant of the three, or the refusal of their code.
-pub fn plant_with(alloc: Global, system: System, image: Image, timing: Timing) -> Result<Plant, Halt>
+pub fn plant_with(
+    alloc: Global,
+    system: System,
+    image: Image,
+    timing: Timing,
+) -> Result<Plant, Halt>
     requires system { IsLawfulSystem system }
     requires timing { IsLawfulTiming timing }
     ensures { Says (words.HasPlant image system timing) result }

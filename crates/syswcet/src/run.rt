@@ -51,8 +51,7 @@ pub fn run_surely(alloc: Global, words: &Words, files: &mut SureFiles, out: &mut
 /// Each line `TASK N` that `all` writes bounds its task, those before a refusal too. Does nothing.
 pub fn lines_bound_tasks()
     ensures { LinesBound }
-{
-}
+{}
 
 /// What the steps of the command that the words name give.
 fn answer<F: Files>(alloc: Global, words: &Words, files: &mut F) -> Result<Bytes, Halt>

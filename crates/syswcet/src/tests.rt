@@ -13,14 +13,10 @@ const IMAGE: [u8; 16] = [
 ];
 
 /// A jump to itself.
-const ROUND_AND_ROUND: [u8; 4] = [
-    0x6f, 0x00, 0x00, 0x00,
-];
+const ROUND_AND_ROUND: [u8; 4] = [0x6f, 0x00, 0x00, 0x00];
 
 /// A call of itself.
-const CALLS_ITSELF: [u8; 4] = [
-    0xef, 0x00, 0x00, 0x00,
-];
+const CALLS_ITSELF: [u8; 4] = [0xef, 0x00, 0x00, 0x00];
 
 /// A jump to the ECALL of TerminateTask.
 const INTO_SERVICE: [u8; 16] = [
