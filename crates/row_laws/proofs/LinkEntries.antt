@@ -6,11 +6,11 @@ use Rattle.std.proofs.lemmas.Bool.{and_parts, not-true}
 use Rattle.std.proofs.lemmas.Bool.Decides.{Decides-int_eq}
 use Rattle.std.proofs.lemmas.Option.{none-some, same_Some, cond_some}
 use Rattle.whole_rows.specs.Row.{is_zero}
+use Rattle.whole_simplex.proofs.Eliminated.{zero_from_test}
 use Rattle.row_squeeze.specs.declared.Link.{Link}
 use Rattle.wcet_atomic_blocks.specs.Plants.{PlantData}
 use Rattle.row_build.specs.Columns.{Along, Column, Starts, Moves, Goes, Begins, Stands}
 use Rattle.row_build.specs.Links.{Entry, entries_from, is_back, is_edge, is_outgoing, is_incoming, link_of_pair, link_of_entries}
-use Rattle.row_build.proofs.Dense.{zero_from}
 use Rattle.row_laws.proofs.LinkLists.{place_of_member, later_member}
 
 -- ---- The entries of a row
@@ -184,7 +184,7 @@ link_is plant factor columns link is =
   where
     by : IsPair plant (entries_from factor 0 columns) link → (k : ℕ) (column : Column) → slice_get columns k ≡ Some column
         → k ≢ link.outgoing → k ≢ link.incoming → (b : Bool) → is_zero (factor column) ≡ b → factor column ≡ pos 0
-    by pair k column at not_out not_in true vanishes = zero_from (factor column) vanishes
+    by pair k column at not_out not_in true vanishes = zero_from_test (factor column) vanishes
     by pair k column at not_out not_in false not_zero =
         let this : Entry = entry_for factor k column in
         let there = place_of_member (entries_from factor 0 columns) this (has_entry factor 0 columns k k column at not_zero (omega arith)) in
