@@ -61,6 +61,16 @@ const ENTRIES_OF_H: [(usize, usize, i128); 66] = [
     (24, 10, -1),
 ];
 
+/// What the rows of a task are: the costs of the columns, the entries that aren't 0, the last row,
+/// and the rows that have links.
+#[derive(Clone, Copy)]
+struct Wanted<'a> {
+    costs: &'a [i128],
+    entries: &'a [(usize, usize, i128)],
+    last: usize,
+    links: &'a [(usize, Link)],
+}
+
 fn system_of(alloc: Global, text: &[u8]) -> Option<System>
     ensures { IfSome result IsLawful }
 {
@@ -151,8 +161,40 @@ fn entry_count(rows: &Rows) -> usize {
     count
 }
 
-fn are_rows(rows: &Rows, entries: &[(usize, usize, i128)]) -> bool {
-    entry_count(rows) == entries.len() && has_entries(rows, entries)
+/// The right side of a row: the activation has one start, and H arrives 1000 cycles apart.
+fn right_side(row: usize, last: usize) -> i128 {
+    if row == 0 {
+        1
+    } else if row == last {
+        2000
+    } else {
+        0
+    }
+}
+
+fn has_right_sides(rows: &Rows, last: usize) -> bool {
+    for row in 0..rows.row_count() {
+        if rows.right(row) != right_side(row, last) {
+            return false;
+        }
+    }
+    rows.row_count() > last
+}
+
+fn has_costs(rows: &Rows, costs: &[i128]) -> bool {
+    for column in 0..rows.column_count() {
+        if column >= costs.len() || rows.cost(column) != costs[column] {
+            return false;
+        }
+    }
+    rows.column_count() == costs.len()
+}
+
+fn are_rows(rows: &Rows, wanted: &Wanted) -> bool {
+    entry_count(rows) == wanted.entries.len()
+        && has_entries(rows, wanted.entries)
+        && has_right_sides(rows, wanted.last)
+        && has_costs(rows, wanted.costs)
 }
 
 /// Whether the links stand at the rows, and there is no other.
@@ -180,8 +222,7 @@ fn has(
     plant: &Plant,
     states: &[AbsState],
     task: usize,
-    entries: &[(usize, usize, i128)],
-    wanted: &[(usize, Link)],
+    wanted: &Wanted,
 ) -> Result<bool, Memory>
     requires closed { IsClosed plant.now states.now }
     requires once { differ same_state states.now ≡ true }
@@ -189,9 +230,9 @@ fn has(
     let rows = rows(alloc, plant, states, task)?;
     let links = links(alloc, plant, states, task)?;
     Ok(
-        are_rows(&rows, entries)
+        are_rows(&rows, wanted)
             && links.len() == rows.row_count()
-            && are_links(links.as_slice(), wanted),
+            && are_links(links.as_slice(), wanted.links),
     )
 }
 
@@ -204,12 +245,19 @@ fn both_have(alloc: Global, plant: &Plant, states: &[AbsState]) -> Result<bool, 
     requires closed { IsClosed plant.now states.now }
     requires once { differ same_state states.now ≡ true }
 {
-    let of_low = [(4, link(6, 5)), (5, link(7, 6)), (8, link(9, 8))];
-    let of_high = [(8, link(10, 9))];
-    Ok(
-        has(alloc, plant, states, 0, &ENTRIES_OF_T, &of_low)?
-            && has(alloc, plant, states, 1, &ENTRIES_OF_H, &of_high)?,
-    )
+    let of_low = Wanted {
+        costs: &[0, 30, 20, 30, 20, 1, 1, 1, 1, 1, 0, 0],
+        entries: &ENTRIES_OF_T,
+        last: 15,
+        links: &[(4, link(6, 5)), (5, link(7, 6)), (8, link(9, 8))],
+    };
+    let of_high = Wanted {
+        costs: &[30, 30, 30, 20, 30, 20, 1, 1, 1, 1, 1, 0, 0, 0, 0, 0, 0],
+        entries: &ENTRIES_OF_H,
+        last: 24,
+        links: &[(8, link(10, 9))],
+    };
+    Ok(has(alloc, plant, states, 0, &of_low)? && has(alloc, plant, states, 1, &of_high)?)
 }
 
 fn four_hold(alloc: Global, plant: &Plant) -> Result<bool, Memory> {
