@@ -26,26 +26,66 @@ use timing_file::{Timing, read_timing};
 use wcet_atomic_blocks::{Plant, plant};
 use whole_rows::Rows;
 
+/// The words of a run: the files by name, and the task.
+#[derive(Drop)]
+struct Named {
+    oil: String,
+    elf: String,
+    timing: String,
+    task: String,
+    states: String,
+}
+
 fn main(rt: HostRuntime) -> Result<()> {
     let mut words = env::args(&rt)?.skip(1);
-    let named = (words.next(), words.next(), words.next(), words.next(), words.next());
-    let (Some(oil), Some(elf), Some(timing), Some(task), Some(states)) = named else {
-        return Err(anyhow!("the words are OIL ELF TIMING TASK STATES"));
+    let named = Named {
+        oil: word(words.next())?,
+        elf: word(words.next())?,
+        timing: word(words.next())?,
+        task: word(words.next())?,
+        states: word(words.next())?,
     };
-    let alloc = rt.alloc();
-    let tree = tree_in(alloc, &fs::read(&rt, oil.as_str())?)?;
-    let system = system_of(alloc, &tree)?;
-    let image = image_in(alloc, &fs::read(&rt, elf.as_str())?)?;
-    let timing = timing_in(alloc, &fs::read(&rt, timing.as_str())?)?;
-    let plant = plant_of(alloc, system, image, timing)?;
-    let Some(task) = task_named(&plant.system, task.as_bytes()) else {
-        return Err(anyhow!("no such task"));
-    };
-    let states = states_in(alloc, &plant, &fs::read(&rt, states.as_str())?)?;
-    let rows = solved_rows(alloc, &plant, &states, task)?;
-    let mut out = BufWriter::new(alloc, io::writer(&rt))?;
-    write_rows(&mut out, &rows)?;
-    Ok(out.flush()?)
+    answer(&rt, &named)
+}
+
+fn answer(rt: &HostRuntime, named: &Named) -> Result<()> {
+    let plant = plant_of(rt, named)?;
+    report(rt, &plant, named)
+}
+
+/// A word that has to be there.
+fn word(given: Option<String>) -> Result<String> {
+    match given {
+        Some(word) => Ok(word),
+        None => Err(anyhow!("the words are OIL ELF TIMING TASK STATES")),
+    }
+}
+
+/// The plant of the three files.
+fn plant_of(rt: &HostRuntime, named: &Named) -> Result<Plant> {
+    let system = system_in(rt, named.oil.as_str())?;
+    plant_with(rt, system, named)
+}
+
+fn plant_with(rt: &HostRuntime, system: System, named: &Named) -> Result<Plant>
+    requires { IsLawfulSystem system }
+{
+    let image = image_in(rt.alloc(), &fs::read(rt, named.elf.as_str())?)?;
+    plant_on(rt, system, image, named)
+}
+
+fn plant_on(rt: &HostRuntime, system: System, image: Image, named: &Named) -> Result<Plant>
+    requires { IsLawfulSystem system }
+{
+    let timing = timing_in(rt.alloc(), &fs::read(rt, named.timing.as_str())?)?;
+    planted(rt.alloc(), system, image, timing)
+}
+
+fn system_in(rt: &HostRuntime, path: &str) -> Result<System>
+    ensures { IfOk result IsLawfulSystem }
+{
+    let tree = tree_in(rt.alloc(), &fs::read(rt, path)?)?;
+    system_of(rt.alloc(), &tree)
 }
 
 fn tree_in(alloc: Global, bytes: &[u8]) -> Result<Tree>
@@ -83,7 +123,7 @@ fn timing_in(alloc: Global, bytes: &[u8]) -> Result<Timing>
     }
 }
 
-fn plant_of(alloc: Global, system: System, image: Image, timing: Timing) -> Result<Plant>
+fn planted(alloc: Global, system: System, image: Image, timing: Timing) -> Result<Plant>
     requires system { IsLawfulSystem system }
     requires timing { IsLawfulTiming timing }
 {
@@ -118,6 +158,22 @@ fn solved_rows(alloc: Global, plant: &Plant, states: &States, task: usize) -> Re
         }
         _ => Err(anyhow!("the states aren't closed")),
     }
+}
+
+/// Writes the rows of the task over the states in the file.
+fn report(rt: &HostRuntime, plant: &Plant, named: &Named) -> Result<()> {
+    let Some(task) = task_named(&plant.system, named.task.as_bytes()) else {
+        return Err(anyhow!("no such task"));
+    };
+    let states = states_in(rt.alloc(), plant, &fs::read(rt, named.states.as_str())?)?;
+    let rows = solved_rows(rt.alloc(), plant, &states, task)?;
+    print_rows(rt, &rows)
+}
+
+fn print_rows(rt: &HostRuntime, rows: &Rows) -> Result<()> {
+    let mut out = BufWriter::new(rt.alloc(), io::writer(rt))?;
+    write_rows(&mut out, rows)?;
+    Ok(out.flush()?)
 }
 
 /// Writes the rows: costs by column, and for each row its entries that aren't 0 and its right side.
