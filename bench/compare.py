@@ -234,7 +234,7 @@ def main():
     with tempfile.TemporaryDirectory() as folder:
         if not paths:
             kept = os.path.join(HERE, "rows")
-            paths = sorted(os.path.join(kept, name) for name in os.listdir(kept))
+            paths = sorted(os.path.join(kept, name) for name in os.listdir(kept) if not name.endswith("_full.json"))
             made = {f"generated_{columns}": chains(columns, columns) for columns in (200, 400, 800)}
             made["flows_930"] = flows(930, 1)
             made.update({f"code_{nodes}": code(nodes, nodes) for nodes in (400, 800, 1600)})

@@ -31,16 +31,19 @@ def main():
         return 0
     count, wrong = 0, 0
     for system, (name, tasks) in KEPT.items():
-        for task in tasks:
-            words = [program, "s.oil", "s.elf", "s.json", task, "k"]
+        for task, form in ((task, form) for task in tasks for form in ("", "_full")):
+            path = os.path.join(ROOT, "bench/rows", f"{name}_{task}{form}.json")
+            if not os.path.exists(path):
+                continue
+            words = [program, "s.oil", "s.elf", "s.json", task, "k"] + (["full"] if form else [])
             done = subprocess.run(words, cwd=os.path.join(ROOT, "examples", system), capture_output=True, check=False)
-            with open(os.path.join(ROOT, "bench/rows", f"{name}_{task}.json")) as text:
+            with open(path) as text:
                 kept = json.load(text)
             found = json.loads(done.stdout) if done.returncode == 0 else None
             count += 1
             if found != {"costs": kept["costs"], "rows": kept["rows"]}:
                 wrong += 1
-                print(f"compare_rows: the rows of {task} in examples/{system} differ")
+                print(f"compare_rows: the rows {name}_{task}{form} of examples/{system} differ")
     print(f"compare_rows: {count} lists of rows, {wrong} differ")
     return 1 if wrong else 0
 

@@ -1,10 +1,12 @@
 //! Writes the rows of a task as JSON, as they are solved: the columns of each chain of edges are one.
-//! The words are those behind `bound`: OIL ELF TIMING TASK STATES. It is for comparison with kept rows
-//! and with other solvers.
+//! The words are those behind `bound`: OIL ELF TIMING TASK STATES. With one more word behind them it
+//! writes the full rows. It is for comparison with kept rows and with other solvers.
 #![tactic(auto)]
 
 ghost use Rattle.std.specs.Prelude.{◌≡◌, ◌<◌, true, IfOk, length};
 ghost use Rattle.listed.specs.Lists.{differ};
+ghost use Rattle.whole_rows.specs.Duals.{HasSmallSizes};
+ghost use Rattle.row_squeeze.specs.Links.{AreLinks};
 ghost use Rattle.oil_grammar.specs.Grammar.{IsWellFormed};
 ghost use Rattle.oil_model.specs.System.{IsLawful as IsLawfulSystem};
 ghost use Rattle.timing_file.specs.Lawful.{IsLawful as IsLawfulTiming};
@@ -12,7 +14,7 @@ ghost use Rattle.abstract_sched.specs.States.{same_state};
 
 use abstract_sched::States;
 use anyhow::{Result, anyhow};
-use bound_solver::linked_rows;
+use bound_solver::{LinkedRows, linked_rows};
 use certificate::read_states;
 use elf_image::{Image, read_elf};
 use oil_grammar::{Tree, read_oil};
@@ -34,6 +36,8 @@ struct Named {
     timing: String,
     task: String,
     states: String,
+    /// The full rows are wanted.
+    full: bool,
 }
 
 fn main(rt: HostRuntime) -> Result<()> {
@@ -44,6 +48,7 @@ fn main(rt: HostRuntime) -> Result<()> {
         timing: word(words.next())?,
         task: word(words.next())?,
         states: word(words.next())?,
+        full: words.next().is_some(),
     };
     answer(&rt, &named)
 }
@@ -146,17 +151,28 @@ fn states_in(alloc: Global, plant: &Plant, bytes: &[u8]) -> Result<States>
     }
 }
 
-/// The rows that are solved for the task.
-fn solved_rows(alloc: Global, plant: &Plant, states: &States, task: usize) -> Result<Rows>
+/// The rows of the task, full or as they are solved.
+fn rows_of(alloc: Global, plant: &Plant, states: &States, task: usize, full: bool) -> Result<Rows>
     requires { differ same_state states.now ≡ true }
 {
     let states = states.as_slice();
     match closed(alloc, plant, states) {
         Ok(Closure::Yes) => {
             let linked = linked_rows(alloc, plant, states, task)?;
-            Ok(squeeze(alloc, &linked.rows, &linked.links)?.rows)
+            wanted(alloc, linked, full)
         }
         _ => Err(anyhow!("the states aren't closed")),
+    }
+}
+
+fn wanted(alloc: Global, linked: LinkedRows, full: bool) -> Result<Rows>
+    requires small { HasSmallSizes linked.rows }
+    requires join { AreLinks linked.rows linked.links }
+{
+    if full {
+        Ok(linked.rows)
+    } else {
+        Ok(squeeze(alloc, &linked.rows, &linked.links)?.rows)
     }
 }
 
@@ -166,7 +182,7 @@ fn report(rt: &HostRuntime, plant: &Plant, named: &Named) -> Result<()> {
         return Err(anyhow!("no such task"));
     };
     let states = states_in(rt.alloc(), plant, &fs::read(rt, named.states.as_str())?)?;
-    let rows = solved_rows(rt.alloc(), plant, &states, task)?;
+    let rows = rows_of(rt.alloc(), plant, &states, task, named.full)?;
     print_rows(rt, &rows)
 }
 
