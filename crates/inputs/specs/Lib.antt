@@ -1,0 +1,6 @@
+pub mod Declared
+pub mod Inputs
+pub mod Plants
+pub mod Subjects
+pub mod States
+pub mod Schedules
