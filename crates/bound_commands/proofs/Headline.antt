@@ -13,7 +13,7 @@ use Rattle.inputs.specs.declared.subjects.Analysed.{Analysed}
 use Rattle.inputs.specs.declared.subjects.Subject.{Subject}
 use Rattle.bound_commands.specs.All.{AnswersAll, AllOn, All}
 use Rattle.bound_commands.specs.Check.{HasVerdict, CheckOn, Check}
-use Rattle.inputs.specs.Declared.{AreBytesOf, OfSystem, BoundsSubject}
+use Rattle.inputs.specs.Meaning.{AreBytesOf, OfSystem, BoundsSubject}
 use Rattle.bound_commands.specs.Bounded.{BoundsAll, HasBound}
 use Rattle.inputs.specs.Inputs.{states_limit}
 use Rattle.inputs.specs.Plants.{PlantOf}

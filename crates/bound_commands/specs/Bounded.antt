@@ -6,7 +6,7 @@ use Rattle.json_fields.specs.Numbers.{digits_below}
 use Rattle.json_fields.specs.Objects.{text_at}
 use Rattle.oil_model.specs.declared.system.System.{System}
 use Rattle.reports.specs.Solved.{bound_text}
-use Rattle.inputs.specs.Declared.{LastsAtMost, AreDeclared}
+use Rattle.inputs.specs.Meaning.{LastsAtMost, AreDeclared}
 use Rattle.bound_commands.specs.All.{task_name}
 
 -- `TASK N` for these tasks, from this one on

@@ -7,7 +7,7 @@ use Rattle.abstract_sched.specs.States.{same_state}
 use Rattle.scheduler_moves.specs.Closed.{IsClosed}
 use Rattle.reports.specs.Solved.{bound_text}
 use Rattle.bound_commands.specs.All.{AnswersTaskAt, task_name}
-use Rattle.inputs.specs.Declared.{LastsAtMost}
+use Rattle.inputs.specs.Meaning.{LastsAtMost}
 
 abbrev pub LinesBound : Type 0
 LinesBound = (plant : PlantData) (states : List AbsState) (task : ℕ) (line : List ℕ)

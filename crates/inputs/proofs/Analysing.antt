@@ -20,7 +20,7 @@ use Rattle.inputs.specs.declared.subjects.Subject.TheVariants.{Lone, Named}
 use Rattle.inputs.specs.Inputs.{image_limit, states_limit}
 use Rattle.inputs.specs.States.{HasStates, HasClosed, StatesFile, ClosedStates}
 use Rattle.inputs.specs.Subjects.{HasLone, HasTask, AnalysedOf, name_of}
-use Rattle.inputs.specs.Declared.{LastsAtMost, AreBytesOf, BoundsTask, BoundsSubject}
+use Rattle.inputs.specs.Meaning.{LastsAtMost, AreBytesOf, BoundsTask, BoundsSubject}
 use Rattle.inputs.proofs.Declared.{Judging, AreJudged, first_bytes, lasts_as, of_system, judged_three}
 use Rattle.inputs.proofs.Given.{states_lawful}
 use Rattle.inputs.proofs.TaskNames.{lone_name_is_text, task_exists, task_name_is_text}

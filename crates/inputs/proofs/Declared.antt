@@ -10,7 +10,7 @@ use Rattle.command_steps.specs.Steps.{Calls, IsCall, Step, Judged, Then}
 use Rattle.command_steps.proofs.Given.{then_ok, file_ok, WasRead}
 use Rattle.inputs.specs.Inputs.{image_limit, oil_limit, HasTree, OilTree, HasSystem}
 use Rattle.inputs.specs.Plants.{timing_limit, HasImage, HasTiming, HasPlant, OilSystem, ElfImage, TimingFile, PlantOf}
-use Rattle.inputs.specs.Declared.{LastsAtMost, AreBytesOf, AreDeclared, OfSystem}
+use Rattle.inputs.specs.Meaning.{LastsAtMost, AreBytesOf, AreDeclared, OfSystem}
 use Rattle.inputs.proofs.Honest.{system_honest, image_honest}
 
 -- ---- the bytes of files

@@ -1,4 +1,4 @@
-pub mod Declared
+pub mod Meaning
 pub mod Inputs
 pub mod Plants
 pub mod Subjects

@@ -1,7 +1,7 @@
 //! What commands read: an OIL file, an image, a timing file and the plant of the three; what is
 //! analysed; lists of scheduler states, certificates and schedules over a plant. Each input is one
 //! step, which reads its files and says what they hold, or refuses with the text of their fault.
-//! `specs/Declared.antt` says what it means that a number bounds the task of such files.
+//! `specs/Meaning.antt` says what it means that a number bounds the task of such files.
 //!
 //!     let analysed = read_subject(alloc, &subject, files)?;      // a plant, and its task
 //!     let states = closed_states(alloc, &name, &analysed.plant, files)?;

@@ -4,7 +4,7 @@ use Rattle.wcet_io.specs.Files.{FilesOutside}
 use Rattle.wcet_atomic_blocks.specs.Plants.{PlantData}
 use Rattle.command_steps.specs.Steps.{Calls, IsCall, Judged}
 use Rattle.command_steps.proofs.Given.{then_ok, file_ok}
-use Rattle.inputs.specs.Declared.{AreBytesOf, OfSystem}
+use Rattle.inputs.specs.Meaning.{AreBytesOf, OfSystem}
 use Rattle.show_commands.specs.Shown.{ReplaysSchedule, ShowsCode, ShowsLayout}
 use Rattle.inputs.specs.Inputs.{oil_limit, HasTree, OilTree}
 use Rattle.inputs.specs.Plants.{PlantOf}

@@ -9,7 +9,7 @@ use Rattle.wcet_atomic_blocks.specs.Plants.{PlantData, IsPlantOf}
 use Rattle.replay.specs.declared.fault.ScheduleKind.TheVariants as schedule_kinds
 use Rattle.replay.specs.declared.schedule.Schedule.{Schedule}
 use Rattle.replay.specs.Schedule.{schedule_in}
-use Rattle.inputs.specs.Declared.{AreDeclared}
+use Rattle.inputs.specs.Meaning.{AreDeclared}
 use Rattle.show_commands.specs.Replay.{SaysResponses}
 use Rattle.show_commands.specs.ShowCode.{code_text}
 

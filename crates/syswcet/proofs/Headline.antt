@@ -15,7 +15,7 @@ use Rattle.syswcet.specs.declared.words.Command.TheVariants as command
 use Rattle.bound_commands.specs.All.{All}
 use Rattle.bound_commands.specs.Check.{Check}
 use Rattle.syswcet.specs.Commands.{StepsOf}
-use Rattle.inputs.specs.Declared.{AreBytesOf}
+use Rattle.inputs.specs.Meaning.{AreBytesOf}
 use Rattle.syswcet.specs.Headline.{SaysTruly, Means}
 use Rattle.show_commands.specs.Replay.{Replay}
 use Rattle.show_commands.specs.ShowCode.{ShowCode}

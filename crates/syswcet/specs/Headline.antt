@@ -8,7 +8,7 @@ use Rattle.wcet_io.specs.Sink.{SinkOutside, appended}
 use Rattle.command_steps.specs.Steps.{Calls}
 use Rattle.reports.specs.Verdicts.{yes_text}
 use Rattle.reports.specs.Solved.{bound_text}
-use Rattle.inputs.specs.Declared.{AreBytesOf, OfSystem, BoundsSubject}
+use Rattle.inputs.specs.Meaning.{AreBytesOf, OfSystem, BoundsSubject}
 use Rattle.inputs.specs.Subjects.{name_of}
 use Rattle.bound_commands.specs.Bounded.{BoundsAll, HasBound}
 use Rattle.show_commands.specs.Shown.{ShowsLayout, ShowsCode, ReplaysSchedule}
