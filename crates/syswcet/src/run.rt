@@ -95,5 +95,11 @@ fn answer_command<F: Files>(alloc: Global, command: &Command, files: &mut F) -> 
             timing,
             schedule,
         } => replayed(alloc, oil, elf, timing, schedule, files),
+        Command::Loops { .. } => no_command(alloc),
+        Command::SplitFind { .. } => no_command(alloc),
+        Command::SplitCheck { .. } => no_command(alloc),
+        Command::TraceRecord { .. } => no_command(alloc),
+        Command::TraceJudge { .. } => no_command(alloc),
+        Command::Demo { .. } => no_command(alloc),
     }
 }
