@@ -14,7 +14,7 @@ use Rattle.certificate.specs.Certificate.{multiplier_in}
 use Rattle.certificate.specs.States.{states_of}
 use Rattle.split_cert.specs.declared.cert.SplitCert.{SplitCert}
 use Rattle.split_cert.specs.Form.{split_parts}
-use Rattle.split_cert.specs.Tree.{Tree, Leaf, Cut, height}
+use Rattle.split_trees.specs.Tree.{Tree, Leaf, Cut, height}
 
 -- the denominator and the multipliers are below 2^80, and the denominator isn't 0
 unfoldable pub leaf_in : Data → Data → Result Tree CertKind

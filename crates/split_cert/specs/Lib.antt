@@ -1,9 +1,6 @@
-pub mod Tree
-pub mod Sides
 pub mod Good
 pub mod Lawful
 pub mod Form
 pub mod Certificate
 pub mod Writing
 pub mod Laws
-pub mod Working

@@ -6,7 +6,7 @@ use Rattle.serde_json.specs.Data.{Data, string, object, no_members, member}
 use Rattle.serde_json.specs.Written.{compact_text}
 use Rattle.certificate.specs.Writing.{number_data, digits_data, list_data, state_data}
 use Rattle.split_cert.specs.declared.cert.SplitCert.{SplitCert}
-use Rattle.split_cert.specs.Tree.{Tree, Leaf, Cut}
+use Rattle.split_trees.specs.Tree.{Tree, Leaf, Cut}
 
 abbrev pub tree_data : Tree → Data
 tree_data (Leaf denominator multipliers) =

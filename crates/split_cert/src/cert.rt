@@ -1,7 +1,7 @@
 //! Split certificates.
 
-use crate::tree::SplitTree;
 use abstract_sched::States;
+use split_trees::SplitTree;
 
 /// A certificate for the bound of a task's response, in cycles: a list of scheduler states, and a
 /// tree of cuts of the columns of the rows over them.

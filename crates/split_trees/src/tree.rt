@@ -1,7 +1,10 @@
 //! Trees of cuts.
 
-use certificate::Numbers;
+use listed::ListedNumbers;
 use std::marker::Model;
+
+/// Multipliers of rows.
+pub type Numbers = ListedNumbers<u128>;
 
 /// A tree of cuts. Contracts see the plain tree.
 #[cycle(tree)]
@@ -14,7 +17,7 @@ pub struct SplitTree {
 #[cycle(tree)]
 #[derive(Drop)]
 pub enum SplitNode {
-    /// For each row a multiplier, over one denominator: first the rows of the task, then one row for
+    /// For each row a multiplier, over one denominator: the rows that are cut, and then one row for
     /// each cut above the leaf, from the root on.
     Leaf {
         denominator: u128,
@@ -30,19 +33,19 @@ pub enum SplitNode {
 }
 
 impl Model for SplitTree {
-    ghost use Rattle.split_cert.specs.Tree.{Tree};
+    ghost use Rattle.split_trees.specs.Tree.{Tree};
 
     ghost Value = { Tree };
 
-    ghost use Rattle.split_cert.specs.Working.Coding.{tree_code};
+    ghost use Rattle.split_trees.specs.Working.Coding.{tree_code};
 
     ghost coded = { tree_code };
 
-    ghost use Rattle.split_cert.specs.Working.View.{tree_of};
+    ghost use Rattle.split_trees.specs.Working.View.{tree_of};
 
     ghost view = { λ tree. tree_of tree.node };
 
-    ghost use Rattle.split_cert.specs.Tree.{height};
+    ghost use Rattle.split_trees.specs.Tree.{height};
 
     ghost size = { height };
 

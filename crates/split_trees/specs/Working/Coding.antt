@@ -2,7 +2,7 @@
 use Rattle.std.specs.Prelude.{ℕ, List, [], ◌∷◌, ◌≡◌, ◌⊎◌, refl}
 use Rattle.std.specs.Coded.{Coded, code_by, coded×, coded⊎, coded_ℕ, coded_list}
 use mathlib.Core.Logic.{inl, inr}
-use Rattle.split_cert.specs.Tree.{Tree, Leaf, Cut}
+use Rattle.split_trees.specs.Tree.{Tree, Leaf, Cut}
 
 abbrev Node : Type 0
 Node = (ℕ × List ℕ) ⊎ (ℕ × ℕ)

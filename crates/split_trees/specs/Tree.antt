@@ -1,8 +1,8 @@
 -- Trees of cuts. A cut parts the values of one column: its low part is for values of at most k, its high part for those
 -- above k. A leaf has multipliers of rows, over one denominator.
 use Rattle.std.specs.Prelude.{ℕ, suc, max, List, [], ◌∷◌, ◌++◌, ◌≡◌, refl}
-use Rattle.split_cert.specs.declared.side.Side.{Side}
-use Rattle.split_cert.specs.declared.side.Side.TheVariants.{AtMost, Above}
+use Rattle.split_trees.specs.declared.side.Side.{Side}
+use Rattle.split_trees.specs.declared.side.Side.TheVariants.{AtMost, Above}
 
 pub data Tree : Type 0 where
   Leaf : (denominator : ℕ) (multipliers : List ℕ) → Tree

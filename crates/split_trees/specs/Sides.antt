@@ -3,8 +3,8 @@ use Rattle.std.specs.Prelude.{ℕ, List, [], ◌∷◌, ◌++◌, map, length, �
 use Rattle.whole_rows.specs.Rows.{RowsData, sample}
 use Rattle.whole_rows.specs.Terms.{row_of_terms}
 use Rattle.whole_rows.specs.declared.Term.{Term}
-use Rattle.split_cert.specs.declared.side.Side.{Side}
-use Rattle.split_cert.specs.declared.side.Side.TheVariants.{AtMost, Above}
+use Rattle.split_trees.specs.declared.side.Side.{Side}
+use Rattle.split_trees.specs.declared.side.Side.TheVariants.{AtMost, Above}
 
 abbrev pub term_of : Side → Term
 term_of (AtMost column k) = record { column = column; entry = pos 1 }
