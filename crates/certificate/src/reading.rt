@@ -83,7 +83,7 @@ impl Format for HeldFormat<'_> {
 }
 
 /// The states that the values are, each of them once.
-pub(crate) fn states_of(
+pub fn states_of(
     alloc: Global,
     rules: &StateRules,
     values: &[Value],
