@@ -3,7 +3,8 @@
 //!
 //! `read_states(alloc, &rules, bytes)?` gives the states that a file lists, each of them once, and
 //! `read_cert(alloc, &rules, task, name, bytes)?` the certificate for a task.
-//! `write_cert(alloc, name, &cert)?` gives its text, which `read_cert` reads again.
+//! `write_cert(alloc, name, &cert)?` gives its text, which `read_cert` reads again, and
+//! `write_states(alloc, &states)?` that of a list of states.
 #![tactic(auto)]
 
 mod cert;
@@ -24,7 +25,7 @@ pub use listed::Memory;
 pub use osek_kernel::Context;
 pub use read::{read_cert, read_states};
 pub use verdict::{Verdict, Why};
-pub use write::{CertText, write_cert};
+pub use write::{CertText, StatesText, write_cert, write_states};
 
 #[cfg(test)]
 mod tests;
