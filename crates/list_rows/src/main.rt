@@ -1,7 +1,12 @@
-//! Writes the rows of a task as JSON, as they are solved: the columns of each chain of edges are one.
-//! The words are those behind `bound`: OIL ELF TIMING TASK STATES. With one more word behind them it
-//! writes the full rows. It is for comparison with kept rows and with other solvers.
+//! Writes the rows of a task in the LP format, as they are solved: the columns of each chain of edges are
+//! one. The words are those behind `bound`: OIL ELF TIMING TASK STATES. With the word `full` behind them it
+//! writes the full rows, with their links, and with `json` it writes JSON. It is for other solvers, and for
+//! comparison with kept rows; nothing of the analysis stands on it.
 #![tactic(auto)]
+
+mod forms;
+mod listing;
+mod names;
 
 ghost use Rattle.std.specs.Prelude.{◌≡◌, ◌<◌, true, IfOk, length};
 ghost use Rattle.listed.specs.Lists.{differ};
@@ -12,6 +17,9 @@ ghost use Rattle.oil_model.specs.System.{IsLawful as IsLawfulSystem};
 ghost use Rattle.timing_file.specs.Lawful.{IsLawful as IsLawfulTiming};
 ghost use Rattle.abstract_sched.specs.States.{same_state};
 
+use crate::forms::{write_json, write_lp};
+use crate::listing::{Listing, chain_names, kept_names, listing};
+use crate::names::{Names, names};
 use abstract_sched::States;
 use anyhow::{Result, anyhow};
 use bound_solver::{LinkedRows, linked_rows};
@@ -19,14 +27,13 @@ use certificate::read_states;
 use elf_image::{Image, read_elf};
 use oil_grammar::{Tree, read_oil};
 use oil_model::{System, model, task_named};
-use row_squeeze::squeeze;
+use row_squeeze::{Links, squeeze};
 use scheduler_moves::{Closure, closed, rules};
 use std::alloc::Global;
 use std::io::{BufWriter, Write};
 use std::{env, fs, io};
 use timing_file::{Timing, read_timing};
 use wcet_atomic_blocks::{Plant, plant};
-use whole_rows::Rows;
 
 /// The words of a run: the files by name, and the task.
 #[derive(Drop)]
@@ -38,18 +45,28 @@ struct Named {
     states: String,
     /// The full rows are wanted.
     full: bool,
+    /// JSON is wanted.
+    json: bool,
 }
 
 fn main(rt: HostRuntime) -> Result<()> {
     let mut words = env::args(&rt)?.skip(1);
-    let named = Named {
+    let mut named = Named {
         oil: word(words.next())?,
         elf: word(words.next())?,
         timing: word(words.next())?,
         task: word(words.next())?,
         states: word(words.next())?,
-        full: words.next().is_some(),
+        full: false,
+        json: false,
     };
+    for form in words {
+        match form.as_str() {
+            "full" => named.full = true,
+            "json" => named.json = true,
+            _ => return Err(anyhow!("behind the files stand `full` and `json` alone")),
+        }
+    }
     answer(&rt, &named)
 }
 
@@ -151,28 +168,16 @@ fn states_in(alloc: Global, plant: &Plant, bytes: &[u8]) -> Result<States>
     }
 }
 
-/// The rows of the task, full or as they are solved.
-fn rows_of(alloc: Global, plant: &Plant, states: &States, task: usize, full: bool) -> Result<Rows>
+/// The rows of the task with their links.
+fn linked(alloc: Global, plant: &Plant, states: &States, task: usize) -> Result<LinkedRows>
     requires { differ same_state states.now ≡ true }
+    ensures small { IfOk result (λ linked. HasSmallSizes linked.rows) }
+    ensures join { IfOk result (λ linked. AreLinks linked.rows linked.links) }
 {
     let states = states.as_slice();
     match closed(alloc, plant, states) {
-        Ok(Closure::Yes) => {
-            let linked = linked_rows(alloc, plant, states, task)?;
-            wanted(alloc, linked, full)
-        }
+        Ok(Closure::Yes) => Ok(linked_rows(alloc, plant, states, task)?),
         _ => Err(anyhow!("the states aren't closed")),
-    }
-}
-
-fn wanted(alloc: Global, linked: LinkedRows, full: bool) -> Result<Rows>
-    requires small { HasSmallSizes linked.rows }
-    requires join { AreLinks linked.rows linked.links }
-{
-    if full {
-        Ok(linked.rows)
-    } else {
-        Ok(squeeze(alloc, &linked.rows, &linked.links)?.rows)
     }
 }
 
@@ -182,54 +187,49 @@ fn report(rt: &HostRuntime, plant: &Plant, named: &Named) -> Result<()> {
         return Err(anyhow!("no such task"));
     };
     let states = states_in(rt.alloc(), plant, &fs::read(rt, named.states.as_str())?)?;
-    let rows = rows_of(rt.alloc(), plant, &states, task, named.full)?;
-    print_rows(rt, &rows)
+    let linked = linked(rt.alloc(), plant, &states, task)?;
+    let names = names(rt.alloc(), plant, states.as_slice(), task, &linked.rows)?;
+    print(rt, &linked, &names, named)
 }
 
-fn print_rows(rt: &HostRuntime, rows: &Rows) -> Result<()> {
+/// Prints the rows, full or squeezed.
+fn print(rt: &HostRuntime, linked: &LinkedRows, names: &Names, named: &Named) -> Result<()>
+    requires small { HasSmallSizes linked.now.rows }
+    requires join { AreLinks linked.now.rows linked.now.links }
+{
     let mut out = BufWriter::new(rt.alloc(), io::writer(rt))?;
-    write_rows(&mut out, rows)?;
+    if named.full {
+        let (columns, rows) = (names.columns.as_slice(), names.rows.as_slice());
+        let listing = listing(rt.alloc(), &linked.rows, columns, rows)?;
+        write(&mut out, &listing, Some(&linked.links), named)?;
+    } else {
+        let listing = squeezed(rt.alloc(), linked, names)?;
+        write(&mut out, &listing, None, named)?;
+    }
     Ok(out.flush()?)
 }
 
-/// Writes the rows: costs by column, and for each row its entries that aren't 0 and its right side.
-fn write_rows(out: &mut impl Write, rows: &Rows) -> io::Result<()> {
-    write!(out, "{{\"costs\":[")?;
-    write_costs(out, rows)?;
-    write!(out, "],\"rows\":[")?;
-    for row in 0..rows.row_count() {
-        write_row(out, rows, row)?;
-    }
-    writeln!(out, "]}}")
-}
-
-fn write_costs(out: &mut impl Write, rows: &Rows) -> io::Result<()> {
-    for column in 0..rows.column_count() {
-        let before = if column == 0 { "" } else { "," };
-        write!(out, "{before}{}", rows.cost(column))?;
-    }
-    Ok(())
-}
-
-fn write_row(out: &mut impl Write, rows: &Rows, row: usize) -> io::Result<()>
-    requires { row < length rows.now.rows }
+/// The squeezed rows, with the names of the first column of each chain.
+fn squeezed(alloc: Global, linked: &LinkedRows, names: &Names) -> Result<Listing>
+    requires small { HasSmallSizes linked.now.rows }
+    requires join { AreLinks linked.now.rows linked.now.links }
 {
-    let before = if row == 0 { "" } else { "," };
-    write!(out, "{before}{{\"terms\":[")?;
-    write_terms(out, rows, row)?;
-    write!(out, "],\"right\":{}}}", rows.right(row))
+    let squeezed = squeeze(alloc, &linked.rows, &linked.links)?;
+    let columns = chain_names(alloc, names.columns.as_slice(), &squeezed.column_of)?;
+    let rows = kept_names(alloc, names.rows.as_slice(), &squeezed.kept_rows)?;
+    listing(alloc, &squeezed.rows, columns.as_slice(), rows.as_slice())
 }
 
-fn write_terms(out: &mut impl Write, rows: &Rows, row: usize) -> io::Result<()>
-    requires { row < length rows.now.rows }
-{
-    let mut before = "";
-    for column in 0..rows.column_count() {
-        let entry = rows.entry(row, column);
-        if entry != 0 {
-            write!(out, "{before}[{column},{entry}]")?;
-            before = ",";
-        }
+fn write(
+    out: &mut impl Write,
+    listing: &Listing,
+    links: Option<&Links>,
+    named: &Named,
+) -> io::Result<()> {
+    if named.json {
+        return write_json(out, listing, links);
     }
-    Ok(())
+    let form = if named.full { "full" } else { "squeezed" };
+    writeln!(out, "\\ {form} rows of the task {}", named.task)?;
+    write_lp(out, listing)
 }
