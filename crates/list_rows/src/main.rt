@@ -18,8 +18,8 @@ ghost use Rattle.timing_file.specs.Lawful.{IsLawful as IsLawfulTiming};
 ghost use Rattle.abstract_sched.specs.States.{same_state};
 
 use crate::forms::{write_json, write_lp};
-use crate::listing::{Listing, chain_names, kept_names, listing};
-use crate::names::{Names, names};
+use crate::listing::{Listing, chain_names, kept_names, listed_rows};
+use crate::names::{Names, name_all};
 use abstract_sched::States;
 use anyhow::{Result, anyhow};
 use bound_solver::{LinkedRows, linked_rows};
@@ -27,7 +27,7 @@ use certificate::read_states;
 use elf_image::{Image, read_elf};
 use oil_grammar::{Tree, read_oil};
 use oil_model::{System, model, task_named};
-use row_squeeze::{Links, squeeze};
+use row_squeeze::{Links, Squeezed, squeeze};
 use scheduler_moves::{Closure, closed, rules};
 use std::alloc::Global;
 use std::io::{BufWriter, Write};
@@ -183,13 +183,54 @@ fn linked(alloc: Global, plant: &Plant, states: &States, task: usize) -> Result<
 
 /// Writes the rows of the task over the states in the file.
 fn report(rt: &HostRuntime, plant: &Plant, named: &Named) -> Result<()> {
-    let Some(task) = task_named(&plant.system, named.task.as_bytes()) else {
-        return Err(anyhow!("no such task"));
-    };
-    let states = states_in(rt.alloc(), plant, &fs::read(rt, named.states.as_str())?)?;
-    let linked = linked(rt.alloc(), plant, &states, task)?;
-    let names = names(rt.alloc(), plant, states.as_slice(), task, &linked.rows)?;
-    print(rt, &linked, &names, named)
+    match task_named(&plant.system, named.task.as_bytes()) {
+        Some(task) => report_task(rt, plant, task, named),
+        None => Err(anyhow!("no such task")),
+    }
+}
+
+fn report_task(rt: &HostRuntime, plant: &Plant, task: usize, named: &Named) -> Result<()> {
+    let bytes = fs::read(rt, named.states.as_str())?;
+    report_states(rt, plant, task, &bytes, named)
+}
+
+fn report_states(
+    rt: &HostRuntime,
+    plant: &Plant,
+    task: usize,
+    bytes: &[u8],
+    named: &Named,
+) -> Result<()> {
+    let states = states_in(rt.alloc(), plant, bytes)?;
+    report_over(rt, plant, task, &states, named)
+}
+
+fn report_over(
+    rt: &HostRuntime,
+    plant: &Plant,
+    task: usize,
+    states: &States,
+    named: &Named,
+) -> Result<()>
+    requires { differ same_state states.now ≡ true }
+{
+    let linked = linked(rt.alloc(), plant, states, task)?;
+    report_rows(rt, plant, task, states, &linked, named)
+}
+
+fn report_rows(
+    rt: &HostRuntime,
+    plant: &Plant,
+    task: usize,
+    states: &States,
+    linked: &LinkedRows,
+    named: &Named,
+) -> Result<()>
+    requires small { HasSmallSizes linked.now.rows }
+    requires join { AreLinks linked.now.rows linked.now.links }
+{
+    let names = name_all(rt.alloc(), plant, states.as_slice(), task, &linked.rows)?;
+    print(rt, linked, &names, named)
 }
 
 /// Prints the rows, full or squeezed.
@@ -197,15 +238,24 @@ fn print(rt: &HostRuntime, linked: &LinkedRows, names: &Names, named: &Named) ->
     requires small { HasSmallSizes linked.now.rows }
     requires join { AreLinks linked.now.rows linked.now.links }
 {
-    let mut out = BufWriter::new(rt.alloc(), io::writer(rt))?;
     if named.full {
         let (columns, rows) = (names.columns.as_slice(), names.rows.as_slice());
-        let listing = listing(rt.alloc(), &linked.rows, columns, rows)?;
-        write(&mut out, &listing, Some(&linked.links), named)?;
+        let listing = listed_rows(rt.alloc(), &linked.rows, columns, rows)?;
+        print_listing(rt, &listing, Some(&linked.links), named)
     } else {
         let listing = squeezed(rt.alloc(), linked, names)?;
-        write(&mut out, &listing, None, named)?;
+        print_listing(rt, &listing, None, named)
     }
+}
+
+fn print_listing(
+    rt: &HostRuntime,
+    listing: &Listing,
+    links: Option<&Links>,
+    named: &Named,
+) -> Result<()> {
+    let mut out = BufWriter::new(rt.alloc(), io::writer(rt))?;
+    write(&mut out, listing, links, named)?;
     Ok(out.flush()?)
 }
 
@@ -215,9 +265,13 @@ fn squeezed(alloc: Global, linked: &LinkedRows, names: &Names) -> Result<Listing
     requires join { AreLinks linked.now.rows linked.now.links }
 {
     let squeezed = squeeze(alloc, &linked.rows, &linked.links)?;
+    listed_chains(alloc, &squeezed, names)
+}
+
+fn listed_chains(alloc: Global, squeezed: &Squeezed, names: &Names) -> Result<Listing> {
     let columns = chain_names(alloc, names.columns.as_slice(), &squeezed.column_of)?;
     let rows = kept_names(alloc, names.rows.as_slice(), &squeezed.kept_rows)?;
-    listing(alloc, &squeezed.rows, columns.as_slice(), rows.as_slice())
+    listed_rows(alloc, &squeezed.rows, columns.as_slice(), rows.as_slice())
 }
 
 fn write(
