@@ -1,7 +1,7 @@
 use Rattle.std.proofs.Common.{ℕ, List, inl, subst}
 use Rattle.command_steps.specs.Steps.{IsCall}
 use Rattle.bound_commands.specs.Check.{CheckOn}
-use Rattle.bound_commands.proofs.checked.checked.Goals as goal
+use Rattle.bound_commands.proofs.judging.checked.Goals as goal
 
 pub returns : goal.returns
 returns g c =
