@@ -4,10 +4,12 @@
 //! one bounds the cost of whole numbers that meet the rows.
 #![tactic(auto)]
 
+mod laws;
 mod side;
 mod tree;
 mod verdict;
 
+pub use laws::good_trees_bound;
 pub use side::Side;
 pub use tree::{Numbers, SplitNode, SplitTree};
 pub use verdict::TreeVerdict;
