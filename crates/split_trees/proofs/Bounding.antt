@@ -1,5 +1,5 @@
 -- Whole numbers that meet the rows are on one side of each cut, so the leaf on their sides bounds their cost.
-use Rattle.std.proofs.Common.{◌≡◌, ℕ, zero, suc, ◌+◌, ◌-◌, ◌<◌, ◌≤◌, List, [], ◌∷◌, ◌++◌, map, All, length, get_or, ℤ, pos, negsuc, ◌+ℤ◌, ◌*ℤ◌, ◌≤ℤ◌, refl, sym, subst, ◌⊎◌, inl, inr, arith, length-append}
+use Rattle.std.proofs.Common.{◌≡◌, ℕ, zero, suc, ◌+◌, ◌-◌, ◌<◌, ◌≤◌, List, [], ◌∷◌, ◌++◌, map, All, length, get_or, ℤ, pos, negsuc, ◌*ℤ◌, ◌≤ℤ◌, refl, sym, subst, ◌⊎◌, inl, inr, arith, length-append}
 use Rattle.std.specs.List.{range_with_len}
 use Rattle.std.proofs.lemmas.Bool.{cases_lt, eq-eqb, ne_eqb}
 use Rattle.std.proofs.lemmas.Int.{ints}
@@ -13,9 +13,9 @@ use Rattle.whole_rows.specs.declared.Term.{Term}
 use Rattle.whole_rows.proofs.Duality.{counts_stay_within}
 use Rattle.split_trees.specs.declared.side.Side.{Side}
 use Rattle.split_trees.specs.declared.side.Side.TheVariants.{AtMost, Above}
-use Rattle.split_trees.specs.Good.{IsColumn, IsGoodLeaf, IsGoodTree}
+use Rattle.split_trees.specs.Good.{IsColumn, IsGoodLeaf}
 use Rattle.split_trees.specs.Laws.{GoodTreesBound}
-use Rattle.split_trees.specs.Sides.{term_of, right_of, row_of, split_rows}
+use Rattle.split_trees.specs.Sides.{right_of, row_of, split_rows}
 use Rattle.split_trees.specs.Tree.{Tree, Leaf, Cut, columns_cut, leaves_on}
 
 -- ---- The left side of a side's row
@@ -70,8 +70,11 @@ meets_more d side u shape meets on row within = at (cases_lt row (length d.rows)
         (meets row below)
     at (inr above) =
         let last : row - length d.rows ≡ 0 = omega (arith, length-append d.rows (row_of (length d.costs) side ∷ [])) in
-        rw (get_or-append_right d.rows (row_of (length d.costs) side ∷ []) (length d.rows) row [] refl above,
-        get_or-append_right d.rights (right_of side ∷ []) (length d.rows) row (pos 0) shape.rights_fit above, last)
+        rw (
+          get_or-append_right d.rows (row_of (length d.costs) side ∷ []) (length d.rows) row [] refl above,
+          get_or-append_right d.rights (right_of side ∷ []) (length d.rows) row (pos 0) shape.rights_fit above,
+          last,
+        )
         on
 
 shaped_more : (d : RowsData) (side : Side) → IsShaped d → IsShaped (with_side d side)
@@ -88,9 +91,12 @@ shaped_more d side shape = record {
 
 split_more : (d : RowsData) (sides : List Side) (side : Side) → split_rows d (sides ++ side ∷ []) ≡ with_side (split_rows d sides) side
 split_more d sides side =
-    rw (map-append (row_of (length d.costs)) sides (side ∷ []), map-append right_of sides (side ∷ []),
-    append_assoc d.rows (map (row_of (length d.costs)) sides) (row_of (length d.costs) side ∷ []),
-    append_assoc d.rights (map right_of sides) (right_of side ∷ [])) refl
+    rw (
+      map-append (row_of (length d.costs)) sides (side ∷ []),
+      map-append right_of sides (side ∷ []),
+      append_assoc d.rows (map (row_of (length d.costs)) sides) (row_of (length d.costs) side ∷ []),
+      append_assoc d.rights (map right_of sides) (right_of side ∷ []),
+    ) refl
 
 split_none : (d : RowsData) → split_rows d [] ≡ d
 split_none d = rw (append-nil d.rows, append-nil d.rights) refl

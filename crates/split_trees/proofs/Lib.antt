@@ -1,1 +1,6 @@
+pub mod Beside
 pub mod Bounding
+pub mod Found
+pub mod Missing
+pub mod Scanning
+pub mod Terms
