@@ -5,7 +5,10 @@
 #![tactic(auto)]
 
 mod cert;
+mod form;
+mod read;
 mod verdict;
 
 pub use cert::SplitCert;
+pub use read::read_split;
 pub use verdict::{SplitVerdict, SplitWhy};

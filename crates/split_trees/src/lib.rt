@@ -9,6 +9,7 @@
 mod judging;
 mod laws;
 mod leaf;
+mod making;
 mod side;
 mod sums;
 mod tree;
