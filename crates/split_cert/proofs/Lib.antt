@@ -1,6 +1,6 @@
 pub mod Bounding
 pub mod Branches
 pub mod Judging
-pub mod Laws
+pub mod Limits
 pub mod Parts
 pub mod Written

@@ -1,5 +1,5 @@
 -- A split certificate that is read is within its limits.
-use Rattle.std.proofs.Common.{◌≡◌, ℕ, zero, suc, ◌-◌, ◌^◌, ◌<◌, ◌≤◌, Bool, true, false, cond, List, Result, Ok, Err, refl, arith, eqb}
+use Rattle.std.proofs.Common.{◌≡◌, ℕ, zero, suc, ◌-◌, ◌^◌, ◌<◌, Bool, true, false, cond, List, Some, Ok, Err, refl, arith, eqb}
 use Rattle.std.specs.Prelude.{bytes_eq, IfOk, nat_le, ok_or}
 use Rattle.std.specs.List.{AllByRecursion}
 use Rattle.std.proofs.lemmas.Bool.{leb-true}
@@ -12,13 +12,12 @@ use Rattle.json_fields.specs.Numbers.{digits_below, digits_in, whole_in}
 use Rattle.json_fields.proofs.Laws.{IfOk-ok_or, IfOk-test, whole_in-range, digits_in-lt, digits_below-lt}
 use Rattle.abstract_sched.specs.Fits.{AreLawful}
 use Rattle.abstract_sched.specs.declared.rules.StateRules.{StateRules}
-use Rattle.certificate.specs.declared.fault.CertKind.{CertKind}
 use Rattle.certificate.specs.declared.fault.CertKind.TheVariants as cert_kinds
 use Rattle.certificate.specs.Certificate.{multiplier_in}
 use Rattle.certificate.specs.States.{states_of}
 use Rattle.certificate.proofs.Laws.{states_of-lawful, told_as_ok}
 use Rattle.split_trees.specs.Lawful.{HasLawfulNumbers, IsLawfulTree}
-use Rattle.split_trees.specs.Tree.{Tree, Leaf, Cut, height}
+use Rattle.split_trees.specs.Tree.{Tree, Leaf, height}
 use Rattle.split_cert.specs.declared.read.Place.{Place}
 use Rattle.split_cert.specs.Certificate.{place_in, leaf_in, tree_in, branch_in, shallow_tree_in, split_in}
 use Rattle.split_cert.specs.Form.{split_parts}
@@ -43,13 +42,20 @@ leaf_in-lawful d ds =
 abbrev IsPlace : Place → Type 0
 IsPlace place = (place.column < 2 ^ 32) × (place.k < 2 ^ 31)
 
+below_32 : (d : Data) (n : ℕ) → whole_in 0 (2 ^ 32 - 1) d ≡ Some n → n < 2 ^ 32
+below_32 d n is = omega (arith, whole_in-range 0 4294967295 d n is)
+
+below_31 : (d : Data) (n : ℕ) → whole_in 0 (2 ^ 31 - 1) d ≡ Some n → n < 2 ^ 31
+below_31 d n is = omega (arith, whole_in-range 0 2147483647 d n is)
+
 place_in-lawful : (column k : Data) → IfOk (place_in column k) IsPlace
 place_in-lawful column k =
-    IfOk-step (λ j. j < 2 ^ 32) IsPlace (ok_or (whole_in 0 (2 ^ 32 - 1) column) cert_kinds.Range) _ (IfOk-ok_or _ _ _ (λ j is. omega (arith, whole_in-range 0 4294967295 column j is))) (λ j below.
-    IfOk-step (λ most. most < 2 ^ 31) IsPlace (ok_or (whole_in 0 (2 ^ 31 - 1) k) cert_kinds.Range) _ (IfOk-ok_or _ _ _ (λ most is. omega (arith, whole_in-range 0 2147483647 k most is))) (λ most low. (below, low)))
+    IfOk-step (λ j. j < 2 ^ 32) IsPlace (ok_or (whole_in 0 (2 ^ 32 - 1) column) cert_kinds.Range) _ (IfOk-ok_or _ _ _ (below_32 column)) (λ j below.
+    IfOk-step (λ most. most < 2 ^ 31) IsPlace (ok_or (whole_in 0 (2 ^ 31 - 1) k) cert_kinds.Range) _ (IfOk-ok_or _ _ _ (below_31 k)) (λ most low. (below, low)))
 
 mutual
   unfolding tree_in branch_in
+
   tree_in-lawful : (d : Data) → IfOk (tree_in d) HasLawfulNumbers
   tree_in-lawful null = tt
   tree_in-lawful (boolean b) = tt
