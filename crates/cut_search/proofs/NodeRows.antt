@@ -10,6 +10,7 @@ use Rattle.row_squeeze.specs.Working.Parts.{terms_from}
 use Rattle.row_squeeze.proofs.Terms.{terms-are, terms-row}
 use Rattle.cut_search.specs.declared.limits.Limits.{Limits}
 use Rattle.cut_search.specs.Nodes.{LimitRow, further_count, further_cost, limit_rows, lower_rows, node_rows, upper_rows, with_limit_rows}
+use Rattle.cut_search.specs.Search.{no_limits}
 use Rattle.cut_search.specs.Working.Nodes.{padded}
 
 -- ---- Further columns
@@ -17,9 +18,6 @@ use Rattle.cut_search.specs.Working.Nodes.{padded}
 pub further_count-append : (xs ys : List Limits) → further_count (xs ++ ys) ≡ further_count xs + further_count ys
 further_count-append [] ys = omega arith
 further_count-append (l ∷ xs) ys = let rest = further_count-append xs ys in omega arith
-
-abbrev pub no_limits : Limits
-no_limits = record { column = 0; low = 0; high = None }
 
 pub further_more : (ls : List Limits) (i : ℕ) → i < length ls → further_count (take (i + 1) ls) ≡ further_count (take i ls) + further_count (get_or ls i no_limits ∷ [])
 further_more ls i h = ap further_count (take_more ls i no_limits h) ∙ further_count-append (take i ls) (get_or ls i no_limits ∷ [])
@@ -29,7 +27,7 @@ further_costs ls i h = ap (λ n. replicate n further_cost) (further_more ls i h)
 
 -- ---- Limit rows
 
-limit_rows-cons : (further : ℕ) (l : Limits) (ls : List Limits) → limit_rows further (l ∷ ls) ≡ limit_rows further (l ∷ []) ++ limit_rows (further + further_count (l ∷ [])) ls
+pub limit_rows-cons : (further : ℕ) (l : Limits) (ls : List Limits) → limit_rows further (l ∷ ls) ≡ limit_rows further (l ∷ []) ++ limit_rows (further + further_count (l ∷ [])) ls
 limit_rows-cons further l ls = by (l.low == 0)
   where
     up : List LimitRow

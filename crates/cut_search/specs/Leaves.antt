@@ -29,9 +29,13 @@ abbrev pub upper_count : Option ℕ → ℕ
 upper_count None = 0
 upper_count (Some high) = 1
 
--- how many rows of the node say the limits of a column
+-- how many say its lower limit
+abbrev pub lower_count : ℕ → ℕ
+lower_count low = cond (low == 0) 0 2
+
+-- and how many say both
 abbrev pub row_count : Limits → ℕ
-row_count l = upper_count l.high + cond (l.low == 0) 0 2
+row_count l = upper_count l.high + lower_count l.low
 
 -- of the high sides of a column the last one alone has a multiplier: that of the row that joins its further column to it
 abbrev pub high_multipliers : ℕ → ℕ → List ℕ

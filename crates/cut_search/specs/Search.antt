@@ -23,7 +23,7 @@ pub data Ending : Type 0 where
 -- ---- Nodes
 
 -- how many pivots the rows of a node may take
-abbrev pub pivot_limit : ℕ
+unfoldable pub pivot_limit : ℕ
 pivot_limit = 100000
 
 -- the sum of multiplier times right side is below the denominator times (bound + 1)
@@ -106,13 +106,13 @@ sample = record { costs = pos 3 ∷ []; rows = (pos 2 ∷ []) ∷ []; rights = p
 
 -- x is 0, or 1, or at least 2, which has no point
 found_case : search_over sample (0 ∷ []) 3 2 ≡ Ok (Cut 0 0 (Leaf 1 (0 ∷ 3 ∷ [])) (Cut 0 1 (Leaf 1 (0 ∷ 0 ∷ 3 ∷ [])) (Leaf 2 (1048579 ∷ 0 ∷ 2097152 ∷ []))))
-unfolding searched gcd_within
+unfolding searched pivot_limit gcd_within
 found_case = refl
 
 too_low_case : search_over sample (0 ∷ []) 2 2 ≡ Err NoTree
-unfolding searched gcd_within
+unfolding searched pivot_limit gcd_within
 too_low_case = refl
 
 one_cut_case : search_over sample (0 ∷ []) 3 1 ≡ Err Cuts
-unfolding searched gcd_within
+unfolding searched pivot_limit gcd_within
 one_cut_case = refl
