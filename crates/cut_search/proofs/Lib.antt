@@ -8,3 +8,4 @@ pub mod Order
 pub mod Parts
 pub mod Products
 pub mod Rays
+pub mod SearchLaws

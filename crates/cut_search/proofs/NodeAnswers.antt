@@ -146,6 +146,7 @@ pub bounded_by : (d : RowsData) (limits : List Limits) (optimum : Optimum) (answ
     → IfOk answer (λ node. All IsFree limits → HaveNoRay d)
 bounded_by d limits optimum (Err fault) shape is = tt
 bounded_by d limits optimum (Ok node) shape is = λ free. record {
+  shape = shape;
   none = λ u ray.
       (let covers = subst (λ (e : RowsData). CoversColumns e (map unsigned_abs optimum.multipliers) (unsigned_abs optimum.denominator)) (root_rows d limits free) is.greatest.covers in
       let above = is.greatest.denominator_above in

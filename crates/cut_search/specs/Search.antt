@@ -80,16 +80,20 @@ abbrev pub cut_count : Tree → ℕ
 cut_count (Leaf denominator multipliers) = 0
 cut_count (Cut column k low high) = 1 + cut_count low + cut_count high
 
--- What the search comes to at a node, with so many cuts left. Cuts are counted in the order in which they are made: those of
--- a low side are gone when its high side begins. No way down has more cuts than `depth`, which is at least as many.
+-- what the cut at a place leads to, with so many cuts left, by the search of its sides. Cuts are counted in the order in which
+-- they are made: those of the low side are gone when the high side begins
+abbrev pub cut_at : (ℕ → List Limits → Result Tree Ending) → ℕ → List Limits → ℕ → Result Tree Ending
+cut_at search left limits place =
+    cond (left == 0) (Err Cuts) (do
+      low ← search (left - 1) (low_side limits place)
+      high ← search (left - 1 - cut_count low) (high_side limits place)
+      Ok (Cut (limits_at limits place).column (limits_at limits place).low low high))
+
+-- What the search comes to at a node, with so many cuts left. No way down has more cuts than `depth`, which is at least as
+-- many.
 unfoldable pub searched : RowsData → ℕ → ℕ → ℕ → List Limits → Result Tree Ending
 searched d bound zero left limits = judged d bound limits (λ place. Err Cuts)
-searched d bound (suc depth) left limits =
-    judged d bound limits
-    (λ place. cond (left == 0) (Err Cuts) (do
-      low ← searched d bound depth (left - 1) (low_side limits place)
-      high ← searched d bound depth (left - 1 - cut_count low) (high_side limits place)
-      Ok (Cut (limits_at limits place).column (limits_at limits place).low low high)))
+searched d bound (suc depth) left limits = judged d bound limits (cut_at (searched d bound depth) left limits)
 
 -- at the root each take column is at least 0
 abbrev pub free : ℕ → Limits

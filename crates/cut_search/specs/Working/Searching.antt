@@ -1,8 +1,8 @@
 -- What the steps of the search need and give.
-use Rattle.std.specs.Prelude.{◌≡◌, ℕ, ◌+◌, ◌<◌, ◌^◌, Bool, true, false, List, length, All, Some, None, Result, Ok, Err}
+use Rattle.std.specs.Prelude.{◌≡◌, ℕ, ◌+◌, ◌-◌, ◌<◌, ◌≤◌, ◌^◌, Bool, true, false, List, length, All, Some, None, Result, Ok, Err}
 use Rattle.whole_rows.specs.Duals.{CoversColumns}
 use Rattle.whole_rows.specs.Greatest.{IsRay}
-use Rattle.whole_rows.specs.Rows.{RowsData}
+use Rattle.whole_rows.specs.Rows.{RowsData, IsShaped}
 use Rattle.whole_rows.specs.declared.DualVerdict.{DualVerdict}
 use Rattle.whole_rows.specs.declared.DualVerdict.TheVariants.{Yes, Count, Column, Bound}
 use Rattle.whole_simplex.specs.Answers.{IsOptimum, IsUnbounded}
@@ -21,13 +21,15 @@ use Rattle.cut_search.specs.declared.judging.Judged.TheVariants as ways
 use Rattle.cut_search.specs.declared.limits.Limits.{Limits}
 use Rattle.cut_search.specs.declared.searching.Part.{Part}
 use Rattle.cut_search.specs.Answers.{SaysSearch}
+use Rattle.cut_search.specs.Leaves.{sides_of}
 use Rattle.cut_search.specs.Nodes.{node_rows}
-use Rattle.cut_search.specs.Search.{Ending, cut_count, first_open, judged, pivot_limit}
+use Rattle.cut_search.specs.Search.{Ending, cut_at, cut_count, first_open, judged, low_side, pivot_limit, searched}
 use Rattle.cut_search.specs.Working.Limits.{AreInOrder, HasSmallLimits}
 use Rattle.cut_search.specs.Working.Nodes.{LieWithin}
 
 -- the rows have no ray
 pub record HaveNoRay (d : RowsData) : Type 0 where
+  pub shape : IsShaped d
   pub none : (u : List ℕ) → IsRay d u → ⊥
 
 -- ---- Nodes
@@ -99,3 +101,18 @@ pub record IsGoodPart (d : RowsData) (bound : ℕ) (sides : List Side) (tree : T
 abbrev pub SaysPart : ℕ → ℕ → Result Tree Ending → Result Part SplitFault → Type 0
 SaysPart cuts left comes_to (Ok part) = (comes_to ≡ Ok part.tree) × (part.left + cut_count part.tree ≡ left)
 SaysPart cuts left comes_to (Err fault) = SaysSearch cuts comes_to (Err fault)
+
+-- no ray is answered
+abbrev pub IsNoRay : SplitFault → Type 0
+IsNoRay (faults.Solve (solving.Unbounded ray)) = ⊥
+IsNoRay fault = Unit {0}
+
+-- the cut at a place, which says what its sides lead to
+abbrev pub SaysCut : RowsData → ℕ → ℕ → ℕ → List Limits → ℕ → Result Part SplitFault → Type 0
+SaysCut d bound cuts left limits place answer = (depth : ℕ) → left ≤ depth + 1 → SaysPart cuts left (cut_at (searched d bound depth) left limits place) answer
+
+-- the low side of the cut at a place led to this part, with so many cuts left before the cut
+pub record IsLowPart (d : RowsData) (bound left : ℕ) (limits : List Limits) (place : ℕ) (part : Part) : Type 0 where
+  pub found : (depth : ℕ) → left ≤ depth + 1 → searched d bound depth (left - 1) (low_side limits place) ≡ Ok part.tree
+  pub count : part.left + cut_count part.tree + 1 ≡ left
+  pub good : IsGoodPart d bound (sides_of (low_side limits place)) part.tree
