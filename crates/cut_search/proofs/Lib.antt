@@ -8,4 +8,5 @@ pub mod Order
 pub mod Parts
 pub mod Products
 pub mod Rays
+pub mod Roots
 pub mod SearchLaws

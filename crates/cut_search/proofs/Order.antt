@@ -38,7 +38,7 @@ later l limits place is = record {
 
 -- ---- Sides
 
-free_sides : (limits : List Limits) → All IsFree limits → sides_of limits ≡ []
+pub free_sides : (limits : List Limits) → All IsFree limits → sides_of limits ≡ []
 free_sides [] free = refl
 free_sides (l ∷ limits) free =
     let here = All-head IsFree l limits free in

@@ -2,6 +2,7 @@
 #![tactic(auto)]
 
 mod fault;
+mod finding;
 mod judging;
 mod leaves;
 mod limits;
@@ -9,3 +10,4 @@ mod nodes;
 mod searching;
 
 pub use fault::SplitFault;
+pub use finding::find_tree;
