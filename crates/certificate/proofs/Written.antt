@@ -1,4 +1,4 @@
--- A certificate that is written is read again as the same certificate.
+-- A certificate, or a list of states, that is written is read again as the same.
 use Rattle.std.proofs.Common.{◌≡◌, ℕ, zero, suc, ◌+◌, ◌^◌, ◌<◌, ◌≤◌, Bool, true, false, List, [], ◌∷◌, ◌++◌, length, map, Option, Some, None, Result, Ok, refl, sym, ap, ◌∙◌, arith, inl, decimal}
 use Rattle.std.proofs.lemmas.Bool.{false≢true, le-leb, lt-ltb, ne_eqb, eq-eqb}
 use Rattle.std.proofs.lemmas.List.{length-map}
@@ -26,12 +26,13 @@ use Rattle.abstract_sched.specs.declared.states.TaskAt.TheVariants.{Suspended, A
 use Rattle.abstract_sched.specs.Fits.{IsId, IsBlockOf, FitsTask, FitsIsr, FitsRules, AreLawful}
 use Rattle.certificate.specs.declared.cert.Cert.{Cert}
 use Rattle.certificate.specs.declared.fault.CertKind.TheVariants as cert_kinds
+use Rattle.certificate.specs.declared.fault.StatesKind.TheVariants as states_kinds
 use Rattle.certificate.specs.Certificate.{multiplier_in, cert_numbers, cert_in}
 use Rattle.certificate.specs.Form.{CertParts, is_task, is_isr, is_state, cert_parts}
 use Rattle.certificate.specs.Lawful.{IsLawful}
 use Rattle.certificate.specs.Parts.{number_in, id_below, flag_in, depth_in, same_context, block_of, inner_of, isr_at}
-use Rattle.certificate.specs.States.{held_id, held_of, task_at, task_of, tasks_of, state_of_parts, state_of, states_of}
-use Rattle.certificate.specs.Writing.{number_data, flag_data, digits_data, task_data, isr_members, isr_data, state_data, cert_data, cert_text}
+use Rattle.certificate.specs.States.{held_id, held_of, task_at, task_of, tasks_of, state_of_parts, state_of, states_of, states_in}
+use Rattle.certificate.specs.Writing.{number_data, flag_data, digits_data, task_data, isr_members, isr_data, state_data, list_data, states_text, cert_data, cert_text}
 use Rattle.certificate.proofs.Decimals.{digits_below-decimal}
 use Rattle.certificate.proofs.Newlines.{read-newline}
 
@@ -290,4 +291,33 @@ read_again name cert d text is utf8 reads rules task lawful =
       d,
       (IsUtf8-append text (10 ∷ []) utf8 (IsUtf8-are_ascii (10 ∷ []) refl), read-newline text ∙ reads shallow),
       ap (cert_in rules task name) is ∙ cert_back name rules task cert lawful,
+    )
+
+-- ---- a list of states
+
+states_exact : (states : List AbsState) → has_float (list_data (map state_data states)) ≡ false
+states_exact states = all_exact state_data state_exact states
+
+states_shallow : (states : List AbsState) → depth (list_data (map state_data states)) ≤ max_depth
+states_shallow states = omega (arith, all_shallow state_data 3 state_shallow states)
+
+states_list_back : (rules : StateRules) (states : List AbsState) → AreLawful rules states → states_in rules (list_data (map state_data states)) ≡ Ok states
+states_list_back rules states lawful =
+    rw (members_of-items_of (map state_data states), all_pass is_state state_data state_form states) (states_back rules states lawful)
+
+pub states_text_of : (states : List AbsState) (d : Data) (text : List ℕ) → d ≡ list_data (map state_data states)
+    → (has_float d ≡ false → text ≡ compact_text d) → text ++ 10 ∷ [] ≡ states_text states
+states_text_of states d text is written =
+    let exact : has_float d ≡ false = rw is (states_exact states) in
+    ap (λ t. t ++ 10 ∷ []) (written exact ∙ ap compact_text is)
+
+pub states_read_again : (states : List AbsState) (d : Data) (text : List ℕ) → d ≡ list_data (map state_data states) → IsUtf8 text
+    → (depth d ≤ max_depth → read text ≡ Some d) → (rules : StateRules) → AreLawful rules states
+    → IsGiven states_kinds.Json (states_in rules) (text ++ 10 ∷ []) (Ok states)
+states_read_again states d text is utf8 reads rules lawful =
+    let shallow : depth d ≤ max_depth = rw is (states_shallow states) in
+    inl (
+      d,
+      (IsUtf8-append text (10 ∷ []) utf8 (IsUtf8-are_ascii (10 ∷ []) refl), read-newline text ∙ reads shallow),
+      ap (states_in rules) is ∙ states_list_back rules states lawful,
     )
