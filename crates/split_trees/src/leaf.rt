@@ -13,7 +13,7 @@ use whole_rows::{DualVerdict, Rows};
 
 /// The first condition on the multipliers of a leaf that fails, for the rows followed by those of the
 /// sides.
-pub(crate) fn judge_leaf(
+pub fn judge_leaf(
     rows: &Rows,
     sides: &[Side],
     multipliers: &[u128],

@@ -17,6 +17,7 @@ mod verdict;
 
 pub use judging::judge_tree;
 pub use laws::good_trees_bound;
+pub use leaf::judge_leaf;
 pub use side::Side;
 pub use tree::{Numbers, SplitNode, SplitTree};
 pub use verdict::TreeVerdict;
