@@ -1,0 +1,4 @@
+pub mod Arithmetic
+pub mod Bounding
+pub mod Uniqueness
+pub mod Fronts

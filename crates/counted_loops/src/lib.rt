@@ -1,0 +1,8 @@
+//! Scratch.
+#![tactic(auto)]
+
+mod counted;
+mod counting;
+mod entering;
+mod rounds;
+mod words;
