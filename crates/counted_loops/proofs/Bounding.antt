@@ -2,7 +2,9 @@
 use Rattle.std.proofs.Common.{◌≡◌, ℕ, zero, suc, ◌+◌, ◌-◌, ◌*◌, ◌/◌, ◌<◌, ◌≤◌, ◌⊎◌, inl, inr, ℤ, pos, negsuc, ◌+ℤ◌, ◌-ℤ◌, ◌*ℤ◌, ◌≤ℤ◌, ◌<ℤ◌, neg_ℤ, unsigned_abs, refl, sym, ◌∙◌, ap, subst, arith}
 use Rattle.std.proofs.lemmas.Int.{ints, by_lt_z}
 use Rattle.std.proofs.Math.Nat.{le_of_mul-le-mul_right, div-mul-le_self, lt-div-mul-add, lt_of_mul-lt-mul_left, div-eq_of_lt}
-use Rattle.rv32_decode.specs.declared.instruction.BranchOp.TheVariants.{Bne, Blt}
+use Rattle.rv32_decode.specs.declared.instruction.BranchOp.{BranchOp}
+use Rattle.rv32_decode.specs.declared.instruction.BranchOp.TheVariants.{Beq, Bne, Blt, Bge, Bltu, Bgeu}
+use Rattle.rv32_decode.specs.Formats.{IsSigned}
 use Rattle.counted_loops.specs.Working.Distances.{Leads, StaysBelow}
 use Rattle.counted_loops.specs.Rounds.{after_rounds, AreRounds}
 
@@ -107,3 +109,28 @@ past_ends start step limit distance pace up paces stays =
     moves_up : (z : ℤ) (n : ℕ) → pos 0 <ℤ z → n ≡ unsigned_abs z → 0 < n
     moves_up (pos p) n above is = omega (arith, ints, above, is)
     moves_up (negsuc p) n above is = absurd (omega (arith, ints, above))
+
+-- ---- Bounds are small
+
+-- a counter that hasn't come to the limit has made fewer steps than lie between
+steps_below : (start step limit : ℤ) (n : ℕ) → (step ≡ pos 0 → ⊥) → IsSigned 12 start → IsSigned 12 limit → after_rounds start step n ≡ limit → n ≤ 4095
+steps_below start (pos zero) limit n moves a b there = absurd (moves refl)
+steps_below start (pos (suc p)) limit n moves a b there = let far : n ≤ n * suc p = omega arith in omega (arith, ints, a, b, there, far)
+steps_below start (negsuc p) limit n moves a b there = let far : n ≤ n * suc p = omega arith in omega (arith, ints, a, b, there, far)
+
+steps_before : (start step limit : ℤ) (n : ℕ) → pos 0 <ℤ step → IsSigned 12 start → IsSigned 12 limit → after_rounds start step n <ℤ limit → n ≤ 4095
+steps_before start (pos zero) limit n up a b there = absurd (omega (arith, ints, up))
+steps_before start (pos (suc p)) limit n up a b there = let far : n ≤ n * suc p = omega arith in omega (arith, ints, a, b, there, far)
+steps_before start (negsuc p) limit n up a b there = absurd (omega (arith, ints, up))
+
+pub bound_small : (op : BranchOp) (start step limit : ℤ) (bound : ℕ) → (step ≡ pos 0 → ⊥) → IsSigned 12 start → IsSigned 12 limit
+    → AreRounds op start step limit (suc bound) → bound ≤ 4095
+bound_small Bne start step limit bound moves a b are = let few = steps_below start step limit (suc bound) moves a b are.first.holds in omega arith
+bound_small Blt start step limit zero moves a b are = omega arith
+bound_small Blt start step limit (suc n) moves a b are =
+    steps_before start step limit (suc n) are.up a b (by_lt_z (after_rounds start step (suc n)) limit (λ lt. lt)
+    (λ le. absurd (let early : suc (suc n) ≤ suc n = are.first.least (suc n) (omega arith) le in omega arith)))
+bound_small Beq start step limit bound moves a b are = absurd are.first.holds
+bound_small Bge start step limit bound moves a b are = absurd are.first.holds
+bound_small Bltu start step limit bound moves a b are = absurd are.first.holds
+bound_small Bgeu start step limit bound moves a b are = absurd are.first.holds

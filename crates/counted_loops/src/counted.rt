@@ -137,12 +137,7 @@ fn bound_in<C: Code>(
 }
 
 /// The bound of a loop; none where it isn't counted.
-fn bound_of_loop<C: Code>(
-    code: &C,
-    entries: &[Option<u32>],
-    flow: &Flow,
-    l: Loop,
-) -> Option<u32>
+fn bound_of_loop<C: Code>(code: &C, entries: &[Option<u32>], flow: &Flow, l: Loop) -> Option<u32>
     requires { AreWords l.from l.to }
     ensures { MatchOption result
         ((bound : ℕ) → words.IsCounted (C.code_of code.now) entries.now flow.now l bound → ⊥)

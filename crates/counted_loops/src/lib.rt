@@ -4,5 +4,7 @@
 mod counted;
 mod counting;
 mod entering;
+mod found;
+mod laws;
 mod rounds;
 mod words;
