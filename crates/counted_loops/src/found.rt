@@ -1,12 +1,15 @@
 //! Timings with found bounds.
 
 ghost use Rattle.std.specs.Prelude.{◌≡◌, IfOk, length};
+ghost use Rattle.counted_loops.specs.Bounds as bounds;
+ghost use Rattle.counted_loops.specs.Counted.{AreFound};
 ghost use Rattle.counted_loops.specs.Found as words;
 
-use crate::counted::Found;
+use crate::bounds::Found;
 use listed::{Listed, Memory};
 use std::alloc::Global;
 use timing_file::{Extra, Extras, Loop, Loops, Name, NamedNumber, NamedNumbers, Timing};
+use wcet_atomic_blocks::Plant;
 
 fn copied_number(alloc: Global, number: &NamedNumber) -> Result<NamedNumber, Memory>
     ensures { IfOk result (λ copy. copy ≡ number.now) }
@@ -82,5 +85,28 @@ pub fn found_timing(alloc: Global, timing: &Timing, found: &Found) -> Result<Tim
         loops,
         taken: timing.taken,
         extra,
+    })
+}
+
+/// The plant with each found bound in place of the declared one.
+pub fn found_plant(alloc: Global, plant: Plant, found: &Found) -> Result<Plant, Memory>
+    requires { AreFound plant.image plant.system plant.flow plant.timing.loops found.now }
+    ensures { IfOk result (λ made. made ≡ bounds.found_plant plant found.now) }
+{
+    plant.belongs_together();
+    let Plant {
+        image,
+        system,
+        timing,
+        flow,
+        blocks,
+    } = plant;
+    let timing = found_timing(alloc, &timing, found)?;
+    Ok(Plant {
+        image,
+        system,
+        timing,
+        flow,
+        blocks,
     })
 }

@@ -1,6 +1,6 @@
 -- A counted loop has its numbers.
 use Rattle.counted_loops.proofs.Uniqueness.{numbers_of, counting_is}
-use Rattle.counted_loops.proofs.counted.bound_of_loop.Goals as goal
+use Rattle.counted_loops.proofs.bounds.bound_of_loop.Goals as goal
 
 pub returns-in-None : goal.returns-in-None
 returns-in-None g c = λ bound is. c.in-None.ensures

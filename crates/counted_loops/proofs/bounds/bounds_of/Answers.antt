@@ -7,7 +7,7 @@ use Rattle.timing_file.specs.declared.timing.Loop.{Loop}
 use Rattle.flow_graph.specs.declared.flow.Flow.{Flow}
 use Rattle.flow_graph.proofs.Graphs.{AllZip-more}
 use Rattle.counted_loops.specs.Counted.{IsCounted, IsFound}
-use Rattle.counted_loops.proofs.counted.bounds_of.Goals as goal
+use Rattle.counted_loops.proofs.bounds.bounds_of.Goals as goal
 
 is_found : (code : ℕ → Option Insn) (entries : List (Option ℕ)) (flow : Flow) (l : Loop) (result : Option ℕ)
     → MatchOption result ((bound : ℕ) → IsCounted code entries flow l bound → ⊥) (IsCounted code entries flow l) → IsFound code entries flow l result

@@ -1,7 +1,7 @@
 -- The span is that of the one address.
 use Rattle.std.proofs.Common.{refl, ◌∙◌, sym}
 use Rattle.counted_loops.proofs.Fronts.{enters_same, begins_same, one_address, no_address}
-use Rattle.counted_loops.proofs.counted.is_come_to_straight.Goals as goal
+use Rattle.counted_loops.proofs.bounds.is_come_to_straight.Goals as goal
 
 pub returns-then-begins_nowhere : goal.returns-then-begins_nowhere
 returns-then-begins_nowhere c =

@@ -1,6 +1,6 @@
 -- The three tests are the three conditions.
 use Rattle.std.proofs.Common.{refl}
-use Rattle.counted_loops.proofs.counted.is_entered_at_front.Goals as goal
+use Rattle.counted_loops.proofs.bounds.is_entered_at_front.Goals as goal
 
 pub returns-then-begins_nowhere : goal.returns-then-begins_nowhere
 returns-then-begins_nowhere c = (
