@@ -1,1 +1,4 @@
 pub mod Drawing
+pub mod StateLists
+pub mod Ranges
+pub mod TimingText
