@@ -2,3 +2,4 @@ pub mod Drawing
 pub mod StateLists
 pub mod Ranges
 pub mod TimingText
+pub mod Sets

@@ -1,10 +1,15 @@
 //! The texts of generated systems.
-ghost use Rattle.std.specs.Prelude.{◌≡◌, ◌≤◌, All, map, IfOk};
+ghost use Rattle.std.specs.Prelude.{◌≡◌, ◌≤◌, All, map, Ok, IfOk};
+ghost use Rattle.json_fields.specs.Files.{IsGiven};
+ghost use Rattle.certificate.specs.States.{states_in};
+ghost use Rattle.certificate.specs.declared.fault.StatesKind.TheVariants as StatesKind;
+ghost use Rattle.elf_image.specs.Elf.{IsImageOf};
+ghost use Rattle.demo_gen.specs.Reading.{the_rules};
 ghost use Rattle.certificate.specs.Writing as writing;
 ghost use Rattle.elf_image.specs.Plain.{IsPlain, plain_file};
 ghost use Rattle.oil_grammar.specs.Layout.{layout_of};
 ghost use Rattle.demo_gen.specs.Draws.{base};
-ghost use Rattle.demo_gen.specs.Demo.{words_of, symbol_of, the_tree, the_states};
+ghost use Rattle.demo_gen.specs.Demo.{words_of, symbol_of, the_image, the_tree, the_states};
 ghost use Rattle.demo_gen.specs.Texts as words;
 ghost use Rattle.demo_gen.specs.Texts.{texts_of, the_demo};
 ghost use Rattle.demo_gen.specs.Working.Drawn.{AreDrawn, IsEarly, IsSmall, HasRoom};
@@ -60,8 +65,9 @@ fn oil_text(alloc: Global, tasks: &[DemoTask]) -> Result<Bytes, Memory>
 fn elf_text(alloc: Global, tasks: &[DemoTask]) -> Result<Bytes, Memory>
     requires small { All IsSmall tasks.now }
     requires plain { IsPlain base (words_of tasks.now) (map symbol_of tasks.now) }
-    ensures { IfOk result (λ text. text
+    ensures text { IfOk result (λ text. text
         ≡ plain_file base (words_of tasks.now) (map symbol_of tasks.now)) }
+    ensures again { IfOk result (λ text. IsImageOf text (the_image tasks.now)) }
 {
     let code = code_of(alloc, tasks)?;
     let symbols = symbols_of(alloc, tasks)?;
@@ -80,7 +86,9 @@ fn timing_text(alloc: Global, tasks: &[DemoTask]) -> Result<Bytes, Memory>
 
 fn states_text(alloc: Global, count: usize) -> Result<Bytes, Memory>
     requires { count ≤ 8 }
-    ensures { IfOk result (λ text. text ≡ writing.states_text (the_states count)) }
+    ensures text { IfOk result (λ text. text ≡ writing.states_text (the_states count)) }
+    ensures again { IfOk result (λ text.
+        IsGiven StatesKind.Json (states_in (the_rules count)) text (Ok (the_states count))) }
 {
     let states = states_of(alloc, count)?;
     write_states(alloc, states.as_slice())
