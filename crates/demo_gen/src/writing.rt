@@ -4,15 +4,17 @@ ghost use Rattle.json_fields.specs.Files.{IsGiven};
 ghost use Rattle.certificate.specs.States.{states_in};
 ghost use Rattle.certificate.specs.declared.fault.StatesKind.TheVariants as StatesKind;
 ghost use Rattle.elf_image.specs.Elf.{IsImageOf};
+ghost use Rattle.timing_file.specs.Timing.{timing_in};
+ghost use Rattle.timing_file.specs.declared.fault.TimingKind.TheVariants as TimingKind;
 ghost use Rattle.demo_gen.specs.Reading.{the_rules};
 ghost use Rattle.certificate.specs.Writing as writing;
 ghost use Rattle.elf_image.specs.Plain.{IsPlain, plain_file};
 ghost use Rattle.oil_grammar.specs.Layout.{layout_of};
 ghost use Rattle.demo_gen.specs.Draws.{base};
-ghost use Rattle.demo_gen.specs.Demo.{words_of, symbol_of, the_image, the_tree, the_states};
+ghost use Rattle.demo_gen.specs.Demo.{words_of, symbol_of, the_image, the_timing, the_tree, the_states};
 ghost use Rattle.demo_gen.specs.Texts as words;
 ghost use Rattle.demo_gen.specs.Texts.{texts_of, the_demo};
-ghost use Rattle.demo_gen.specs.Working.Drawn.{AreDrawn, IsEarly, IsSmall, HasRoom};
+ghost use Rattle.demo_gen.specs.Working.Drawn.{AreDrawn, IsEarly, IsSmall};
 
 use crate::code::{code_of, symbols_of};
 use crate::draws::{BASE, tasks};
@@ -75,8 +77,10 @@ fn elf_text(alloc: Global, tasks: &[DemoTask]) -> Result<Bytes, Memory>
 }
 
 fn timing_text(alloc: Global, tasks: &[DemoTask]) -> Result<Bytes, Memory>
-    requires { All HasRoom tasks.now }
-    ensures { IfOk result (λ text. text ≡ words.timing_text tasks.now) }
+    requires { AreDrawn tasks.now }
+    ensures text { IfOk result (λ text. text ≡ words.timing_text tasks.now) }
+    ensures again { IfOk result (λ text.
+        IsGiven TimingKind.Json timing_in text (Ok (the_timing tasks.now))) }
 {
     let value = timing_value(alloc, tasks)?;
     let mut text = value.to_vec(alloc)?;

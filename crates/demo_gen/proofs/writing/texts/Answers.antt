@@ -1,4 +1,4 @@
-use Rattle.demo_gen.proofs.Ranges.{all_early, all_small, all_have_room, is_plain}
+use Rattle.demo_gen.proofs.Ranges.{all_early, all_small, is_plain}
 use Rattle.demo_gen.proofs.writing.texts.Goals as goal
 
 pub oil_text-requires : goal.oil_text-requires
@@ -10,5 +10,3 @@ elf_text-requires-clause-small c = all_small c.args.tasks.now c.requires
 pub elf_text-requires-clause-plain : goal.elf_text-requires-clause-plain
 elf_text-requires-clause-plain c = is_plain c.args.tasks.now c.requires
 
-pub timing_text-requires : goal.timing_text-requires
-timing_text-requires c = all_have_room c.args.tasks.now c.requires
