@@ -10,12 +10,7 @@ use Rattle.hex.specs.Hex.{lower_digits, encode_with, encode_lower}
 use Rattle.json_fields.specs.Numbers.{address_in}
 use Rattle.json_fields.proofs.Addresses.{address_of-digits}
 use Rattle.demo_gen.specs.Texts.{address_data}
-
-passing : (test : ℕ → Bool) (from count d : ℕ) → list_all test (range_with_len from count) ≡ true → d < count → test (from + d) ≡ true
-passing test from zero d all below = absurd (omega arith)
-passing test from (suc count) zero all below = let same : from + 0 ≡ from = omega arith in rw same ((and_parts _ _ all).0)
-passing test from (suc count) (suc d) all below =
-    let same : from + suc d ≡ (from + 1) + d = omega arith in rw same (passing test (from + 1) count d (and_parts _ _ all).1 (omega arith))
+use Rattle.demo_gen.proofs.Below.{passing}
 
 is_right : ℕ → Bool
 is_right d = digit_value (slice_index lower_digits d) == d
@@ -27,8 +22,7 @@ all_right = refl
 digit_back : (d : ℕ) → d < 16 → digit_value (slice_index lower_digits d) ≡ d
 unfolding is_right
 digit_back d below =
-    let same : 0 + d ≡ d = omega arith in
-    eqb-true _ _ (subst (λ n. is_right n ≡ true) same (passing is_right 0 16 d all_right below))
+    eqb-true _ _ (passing is_right 16 d all_right below)
 
 -- the number of bytes, the highest first, behind those that give n
 unfoldable big : ℕ → List ℕ → ℕ

@@ -1,6 +1,10 @@
 pub mod Drawing
 pub mod StateLists
 pub mod Ranges
+pub mod Below
 pub mod AddressTexts
 pub mod TimingText
 pub mod Sets
+pub mod Spelling
+pub mod ObjectNames
+pub mod TreeText

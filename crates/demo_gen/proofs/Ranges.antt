@@ -13,6 +13,7 @@ use Rattle.rv32_decode.specs.Instructions.{word_of_insn}
 use Rattle.demo_gen.specs.declared.task.DemoTask.{DemoTask}
 use Rattle.demo_gen.specs.Draws.{base, draw, size_of, entry_of, task_at, tasks_of}
 use Rattle.demo_gen.specs.Demo.{code_of, words_of, symbol_of, tail_of}
+use Rattle.demo_gen.proofs.TreeText.{IsWritten}
 use Rattle.demo_gen.specs.Working.Drawn.{IsTask, Follow, AreDrawn, IsEarly, IsSmall, HasRoom}
 
 -- ---- The tasks of a seed
@@ -116,3 +117,8 @@ is_plain tasks drawn =
       few_symbols = let symbols : length (map symbol_of tasks) ≡ length tasks = length-map tasks symbol_of in omega (arith, symbols, drawn.few);
       names = All-from_recursion (λ (symbol : Symbol). IsPlainName symbol.name) (map symbol_of tasks) (names_fit tasks early);
     }
+
+pub all_written : (tasks : List DemoTask) → AreDrawn tasks → AllByRecursion IsWritten tasks
+all_written tasks drawn =
+    each_task IsWritten (λ number entry task early low is. (omega (arith, is.number_is), omega (arith, is.cycle))) 0 base tasks
+    (omega (arith, drawn.few)) (omega arith) drawn.follow

@@ -9,12 +9,13 @@ ghost use Rattle.timing_file.specs.declared.fault.TimingKind.TheVariants as Timi
 ghost use Rattle.demo_gen.specs.Reading.{the_rules};
 ghost use Rattle.certificate.specs.Writing as writing;
 ghost use Rattle.elf_image.specs.Plain.{IsPlain, plain_file};
+ghost use Rattle.oil_grammar.specs.Grammar.{IsTextOf};
 ghost use Rattle.oil_grammar.specs.Layout.{layout_of};
 ghost use Rattle.demo_gen.specs.Draws.{base};
 ghost use Rattle.demo_gen.specs.Demo.{words_of, symbol_of, the_image, the_timing, the_tree, the_states};
 ghost use Rattle.demo_gen.specs.Texts as words;
 ghost use Rattle.demo_gen.specs.Texts.{texts_of, the_demo};
-ghost use Rattle.demo_gen.specs.Working.Drawn.{AreDrawn, IsEarly, IsSmall};
+ghost use Rattle.demo_gen.specs.Working.Drawn.{AreDrawn, IsSmall};
 
 use crate::code::{code_of, symbols_of};
 use crate::draws::{BASE, tasks};
@@ -57,8 +58,9 @@ fn texts(alloc: Global, tasks: &[DemoTask]) -> Result<Demo, Memory>
 }
 
 fn oil_text(alloc: Global, tasks: &[DemoTask]) -> Result<Bytes, Memory>
-    requires { All IsEarly tasks.now }
-    ensures { IfOk result (λ text. text ≡ layout_of (the_tree tasks.now)) }
+    requires { AreDrawn tasks.now }
+    ensures text { IfOk result (λ text. text ≡ layout_of (the_tree tasks.now)) }
+    ensures again { IfOk result (λ text. IsTextOf (the_tree tasks.now) text) }
 {
     let tree = tree_of(alloc, tasks)?;
     write_oil(alloc, &tree)
