@@ -8,3 +8,6 @@ pub mod Sets
 pub mod Spelling
 pub mod ObjectNames
 pub mod TreeText
+pub mod SystemNames
+pub mod SystemOf
+pub mod NoFault

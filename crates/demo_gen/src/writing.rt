@@ -6,12 +6,12 @@ ghost use Rattle.certificate.specs.declared.fault.StatesKind.TheVariants as Stat
 ghost use Rattle.elf_image.specs.Elf.{IsImageOf};
 ghost use Rattle.timing_file.specs.Timing.{timing_in};
 ghost use Rattle.timing_file.specs.declared.fault.TimingKind.TheVariants as TimingKind;
-ghost use Rattle.demo_gen.specs.Reading.{the_rules};
+ghost use Rattle.demo_gen.specs.Reading.{the_rules, AreRead};
 ghost use Rattle.certificate.specs.Writing as writing;
 ghost use Rattle.elf_image.specs.Plain.{IsPlain, plain_file};
 ghost use Rattle.oil_grammar.specs.Grammar.{IsTextOf};
 ghost use Rattle.oil_grammar.specs.Layout.{layout_of};
-ghost use Rattle.demo_gen.specs.Draws.{base};
+ghost use Rattle.demo_gen.specs.Draws.{base, tasks_of};
 ghost use Rattle.demo_gen.specs.Demo.{words_of, symbol_of, the_image, the_timing, the_tree, the_states};
 ghost use Rattle.demo_gen.specs.Texts as words;
 ghost use Rattle.demo_gen.specs.Texts.{texts_of, the_demo};
@@ -30,11 +30,12 @@ use listed::Memory;
 use oil_grammar::write_oil;
 use std::alloc::Global;
 
-/// The texts of the system that the seed gives for so many tasks, 1 to 8.
+/// The texts of the system that the seed gives for so many tasks, 1 to 8. Each passes its reader.
 pub fn demo(alloc: Global, seed: u32, count: usize) -> Result<Demo, Memory>
     requires some { 1 ≤ count }
     requires few { count ≤ 8 }
-    ensures { IfOk result (λ made. made ≡ the_demo seed count) }
+    ensures text { IfOk result (λ made. made ≡ the_demo seed count) }
+    ensures read { IfOk result (AreRead (tasks_of seed count)) }
 {
     let tasks = tasks(alloc, seed, count)?;
     texts(alloc, &tasks)
@@ -43,7 +44,8 @@ pub fn demo(alloc: Global, seed: u32, count: usize) -> Result<Demo, Memory>
 /// The texts of the system of these tasks.
 fn texts(alloc: Global, tasks: &[DemoTask]) -> Result<Demo, Memory>
     requires { AreDrawn tasks.now }
-    ensures { IfOk result (λ made. made ≡ texts_of tasks.now) }
+    ensures text { IfOk result (λ made. made ≡ texts_of tasks.now) }
+    ensures read { IfOk result (AreRead tasks.now) }
 {
     let oil = oil_text(alloc, tasks)?;
     let elf = elf_text(alloc, tasks)?;
