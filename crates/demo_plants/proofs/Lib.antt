@@ -1,3 +1,6 @@
 pub mod Words
 pub mod CodeOf
 pub mod NodesOf
+pub mod EntriesOf
+pub mod Faultless
+pub mod Plant

@@ -8,6 +8,7 @@ use Rattle.std.proofs.lemmas.Option.{same_Some}
 use Rattle.rv32_decode.specs.declared.instruction.Insn.{Insn}
 use Rattle.rv32_decode.specs.declared.instruction.Insn.TheVariants.{Jalr, Ecall}
 use Rattle.rv32_machine.specs.Execution.{following, moved}
+use Rattle.rv32_machine.specs.declared.turns.ServiceAt.{ServiceAt}
 use Rattle.rv32_machine.specs.declared.turns.Turn.TheVariants.{Serving}
 use Rattle.rv32_machine.specs.Places.{service_at, pair_at, turn_at, is_middle, preceding}
 use Rattle.oil_model.specs.declared.system.System.{System}
@@ -23,6 +24,9 @@ use Rattle.flow_graph.proofs.Places.{service_words, pair_words}
 use Rattle.demo_gen.specs.declared.task.DemoTask.{DemoTask}
 use Rattle.demo_gen.specs.Demo.{add, back, tail_of, code_of, loop_of}
 use Rattle.demo_plants.proofs.CodeOf.{at, IsPlaced, step_at, tail_at, each_at}
+
+pub never : {A : Type 0} {x : A} → ◌≡◌ {A = Option A} None (Some x) → ⊥
+never is = absurd cc
 
 -- ---- Words that are no service's third word and no pair's second
 
@@ -82,7 +86,16 @@ back_address task place high below = omega arith
 
 -- ---- What holds of a node
 
+abbrev pub nowhere : Edge Node
+nowhere = record { to = None; kind = kinds.Service }
+
+-- the service there is TerminateTask
+pub record Terminates (program : Program) (node : Node) (service : ServiceAt) : Type 0 where
+  pub is : service ≡ record { number = 2; argument = 0 }
+  pub edges : edges_of program.code node ≡ nowhere ∷ []
+
 pub record IsGood (program : Program) (tasks : List DemoTask) (node : Node) : Type 0 where
+  pub ends : (service : ServiceAt) → service_at program.code node.address ≡ Some service → Terminates program node service
   pub fault : fault_of program node ≡ None
   pub stays : (number : ℕ) (edge : Edge Node) (next : Node) → slice_get (edges_of program.code node) number ≡ Some edge → edge.to ≡ Some next → IsInTask tasks next
 
@@ -121,6 +134,7 @@ onward_good : (program : Program) (tasks : List DemoTask) (node : Node) (rd rs1 
 onward_good program tasks node rd rs1 imm word here begins later next =
     let edges : edges_of program.code node ≡ edge_to kinds.Straight (next_node node) ∷ [] = rw here refl in
     record {
+      ends = λ s found. absurd (never (sym (no_service program.code node.address (add rd rs1 imm) here (add_plain rd rs1 imm)) ∙ found));
       fault = rw (word, here, begins, lt-leb (following node.address) node.address later) refl;
       stays = λ number edge to leaves arrives.
           leads_to tasks (edge_to kinds.Straight (next_node node)) edge (next_node node) to
@@ -143,6 +157,7 @@ branch_good program tasks node word here begins later quiet quiet' covered next 
     let taken = edge_to kinds.Taken target in
     let edges : edges_of program.code node ≡ untaken ∷ taken ∷ [] = rw here refl in
     record {
+      ends = λ s found. absurd (never (sym (no_service program.code node.address (back 6) here back_plain) ∙ found));
       fault = rw (word, here, begins, quiet, quiet', lt-leb (following node.address) node.address later, covered)
           (none_either (nat_le (moved node.address (negsuc 3)) node.address));
       stays = λ number edge to leaves arrives. elim (either_edge (edges_of program.code node) untaken taken edge number edges leaves) [
@@ -151,18 +166,15 @@ branch_good program tasks node word here begins later quiet quiet' covered next 
         ];
     }
 
-never : {A : Type 0} {x : A} → ◌≡◌ {A = Option A} None (Some x) → ⊥
-never is = absurd cc
-
 -- a node at the call that ends a task
 call_good : (program : Program) (tasks : List DemoTask) (node : Node) → program.has_word node.address ≡ true
     → program.code node.address ≡ Some Ecall → begins_at_middle program node ≡ false
     → service_at program.code node.address ≡ Some (record { number = 2; argument = 0 }) → IsGood program tasks node
 call_good program tasks node word here begins service =
-    let nowhere : Edge Node = record { to = None; kind = kinds.Service } in
     let edges : edges_of program.code node ≡ nowhere ∷ [] = rw (service, here) refl in
     let turn : turn_at program.code node.address ≡ Some Serving = rw here refl in
     record {
+      ends = λ s found. record { is = sym (same_Some _ s (sym service ∙ found)); edges = edges };
       fault = rw (word, turn, begins, service) refl;
       stays = λ number edge to leaves arrives. let is = only_edge (edges_of program.code node) nowhere edge number edges leaves in
           absurd (never (ap (λ (e : Edge Node). e.to) is ∙ arrives));
