@@ -4,3 +4,4 @@ pub mod NodesOf
 pub mod EntriesOf
 pub mod Faultless
 pub mod Plant
+pub mod Listing
