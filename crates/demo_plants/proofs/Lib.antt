@@ -5,3 +5,5 @@ pub mod EntriesOf
 pub mod Faultless
 pub mod Plant
 pub mod Listing
+pub mod Simple
+pub mod Closing

@@ -97,7 +97,3 @@ pub no_tasks : (count number : ℕ) (places : List (Option ℕ)) → length plac
 no_tasks zero number places long = refl
 no_tasks (suc count) number [] long = absurd (omega (arith, long))
 no_tasks (suc count) number (place ∷ places) long = ap (λ rest. Suspended ∷ rest) (no_tasks count (suc number) places (omega (arith, long)))
-
--- no resource is held
-pub nothing_held : (number : ℕ) (set : List Bool) → AllByRecursion (λ (task : TaskAt). active_of task ≡ None) (tasks_at number (replicate 0 false))
-nothing_held number set = tt
