@@ -1,0 +1,5 @@
+pub mod Kinds
+pub mod Trace
+pub mod Form
+pub mod Text
+pub mod Verdict

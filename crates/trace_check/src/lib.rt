@@ -1,0 +1,11 @@
+//! Recorded traces of the kernel's events: their text, and the verdict on one.
+#![tactic(auto)]
+
+mod fault;
+mod trace;
+mod verdict;
+
+pub use fault::{TraceFault, TraceKind};
+pub use listed::Memory;
+pub use trace::{Event, Events, Trace};
+pub use verdict::TraceVerdict;
