@@ -3,3 +3,4 @@ pub mod Trace
 pub mod Form
 pub mod Text
 pub mod Verdict
+pub mod Working

@@ -2,10 +2,14 @@
 #![tactic(auto)]
 
 mod fault;
+mod form;
+mod names;
+mod reading;
 mod trace;
 mod verdict;
 
 pub use fault::{TraceFault, TraceKind};
 pub use listed::Memory;
+pub use reading::read_trace;
 pub use trace::{Event, Events, Trace};
 pub use verdict::TraceVerdict;
