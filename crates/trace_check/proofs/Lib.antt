@@ -1,3 +1,6 @@
 mod Forms
 mod Naming
 mod Laws
+mod NameTexts
+mod NamesBack
+mod Written

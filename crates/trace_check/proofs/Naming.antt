@@ -8,7 +8,7 @@ use Rattle.trace_check.specs.Working.Names.{place_in_both}
 
 -- ---- the first place that passes, member by member
 
-abbrev step : Bool → Option ℕ → Option ℕ
+abbrev pub step : Bool → Option ℕ → Option ℕ
 step here later = cond here (Some 0) (option_map suc later)
 
 place_if : (n k : ℕ) (below : Bool) → cond below (Some (suc k)) None ≡ option_map suc (cond {A = Option ℕ} below (Some k) None)
@@ -22,7 +22,7 @@ next_below a b = by (nat_lt a b) refl
     by true e = lt-ltb (suc a) (suc b) (omega (arith, ltb-true a b e))
     by false e = le-ltb (suc a) (suc b) (omega (arith, ltb-false a b e))
 
-position_step : {A : Type 0} (p : A → Bool) (x : A) (xs : List A) → position p (x ∷ xs) ≡ step (p x) (position p xs)
+pub position_step : {A : Type 0} (p : A → Bool) (x : A) (xs : List A) → position p (x ∷ xs) ≡ step (p x) (position p xs)
 position_step p x xs = by (p x)
   where
     by : (here : Bool)

@@ -7,9 +7,11 @@ mod names;
 mod reading;
 mod trace;
 mod verdict;
+mod writing;
 
 pub use fault::{TraceFault, TraceKind};
 pub use listed::Memory;
 pub use reading::read_trace;
 pub use trace::{Event, Events, Trace};
 pub use verdict::TraceVerdict;
+pub use writing::{TraceText, write_trace};
