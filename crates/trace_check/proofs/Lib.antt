@@ -4,3 +4,4 @@ mod Laws
 mod NameTexts
 mod NamesBack
 mod Written
+mod Arriving

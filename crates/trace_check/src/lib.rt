@@ -1,6 +1,7 @@
 //! Recorded traces of the kernel's events: their text, and the verdict on one.
 #![tactic(auto)]
 
+mod arrivals;
 mod fault;
 mod form;
 mod names;
