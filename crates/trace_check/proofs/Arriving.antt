@@ -23,7 +23,7 @@ each_more P [] y each last (suc i) x is = absurd cc
 each_more P (first ∷ xs) y each last zero x is = each 0 x is
 each_more P (first ∷ xs) y each last (suc i) x is = each_more P xs y (λ j. each (suc j)) last i x is
 
-set_or_same : {A : Type 0} (xs : List A) (i k : ℕ) (y x : A) → slice_get (slice_set xs i y) k ≡ Some x
+pub set_or_same : {A : Type 0} (xs : List A) (i k : ℕ) (y x : A) → slice_get (slice_set xs i y) k ≡ Some x
     → ((k ≡ i) × (x ≡ y)) ⊎ ((k ≡ i → ⊥) × (slice_get xs k ≡ Some x))
 set_or_same [] i k y x is = absurd cc
 set_or_same (first ∷ xs) zero zero y x is = inl (refl, sym (same_Some y x is))

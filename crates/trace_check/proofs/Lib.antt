@@ -5,3 +5,4 @@ mod NameTexts
 mod NamesBack
 mod Written
 mod Arriving
+mod Tabling

@@ -34,8 +34,8 @@ impl Moments {
     /// source arrives once.
     pub(crate) fn has_near(&self, source: usize, at: u64, once: bool, distance: u64) -> bool
         requires { source < length self.now.sets.items }
-        ensures { (arrivals : List Arrival) → AreKept self.now.sets.items
-            (length self.now.sets.items) arrivals
+        ensures { (sources : ℕ) (arrivals : List Arrival)
+            → AreKept self.now.sets.items sources arrivals
             → result ≡ list_any (λ other. once || nat_lt (words.gap at other) distance)
             (moments_of source arrivals) }
     {
