@@ -6,3 +6,5 @@ mod NamesBack
 mod Written
 mod Arriving
 mod Tabling
+mod Following
+mod NodePlaces

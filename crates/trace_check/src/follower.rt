@@ -1,14 +1,14 @@
 //! How far the events of a trace were followed.
 
-ghost use Rattle.std.specs.Prelude.{◌≡◌, ◌<◌, ℕ, IfOk, IfSome, List, OnOk, length, nat_lt};
-ghost use Rattle.std.specs.Prelude.{option_map, slice_get, Some};
-ghost use Rattle.std.specs.Option.{option_map_or};
+ghost use Rattle.std.specs.Prelude.{◌≡◌, ◌<◌, ℕ, IfOk, IfSome, List, OnOk, length};
+ghost use Rattle.std.specs.Prelude.{false, max, not, option_map, slice_index_or, Some};
+ghost use Rattle.std.specs.List.{list_any};
 ghost use Rattle.osek_kernel.specs.Sources.{source_count};
-ghost use Rattle.abstract_sched.specs.declared.states.AbsState.{AbsState as StateData};
-ghost use Rattle.row_build.specs.Columns.{Going};
+ghost use Rattle.osek_machine.specs.Events.{Arrival};
 ghost use Rattle.trace_check.specs.declared.trace.Event.TheVariants.{Arrive, Take, Service};
 ghost use Rattle.trace_check.specs.Verdict as words;
 ghost use Rattle.trace_check.specs.Verdict.{Follower as Followed};
+ghost use Rattle.trace_check.specs.Working.Arrived.{AreKept};
 ghost use Rattle.trace_check.specs.Working.Following.{Follows, Goes, IsFollower, IsStep, MovesOn};
 ghost use Rattle.trace_check.specs.Working.Words as working;
 ghost use Rattle.trace_check.specs.Working.Tables.{going_of};
@@ -21,7 +21,9 @@ use crate::verdict::TraceVerdict;
 use abstract_sched::AbsState;
 use certificate::Cert;
 use listed::Memory;
+use oil_model::System;
 use osek_kernel::Source;
+use timing_file::Timing;
 use wcet_atomic_blocks::Plant;
 
 /// How far the events were followed: the place of the scheduler state among the listed ones, for each
@@ -79,10 +81,7 @@ impl Follower {
             → result ≡ words.is_too_close plant.now f (Arrive at source) }
     {
         let _ = states;
-        let kind = Source::at(&plant.system, source);
-        let once = kind.is_one_shot(&plant.system);
-        let distance = distance_of(&plant.system, &plant.timing, kind);
-        self.arrivals.has_near(source, at, once, distance)
+        is_too_close(&self.arrivals, &plant.system, &plant.timing, at, source)
     }
 
     fn add(&mut self, plant: &Plant, cert: &Cert, at: u64, source: usize) -> Result<(), Memory>
@@ -92,10 +91,11 @@ impl Follower {
             → OnOk result (Follows plant.now cert.now.states self.new
             (words.followed plant.now cert.now.task f (Arrive at source))) }
     {
-        let _ = (plant, cert);
+        let _ = plant;
+        let _ = cert;
         self.arrivals.add(source, at)?;
         self.pending[source] = true;
-        self.latest = self.latest.max(at);
+        self.latest = greater(self.latest, at);
         Ok(())
     }
 
@@ -119,7 +119,7 @@ impl Follower {
             → IsStep plant.now cert.now.states self.old.state f (Take start end source) step
             → Goes plant.now cert.now place f (Take start end source) self.new result }
     {
-        if self.has_wrong_times(start, end) || !self.pending[source] {
+        if self.has_wrong_times(start, end) || isnt_pending(self.pending.as_slice(), source) {
             return Some(TraceVerdict::NotAWalk { event: place });
         }
         self.pending[source] = false;
@@ -200,15 +200,43 @@ impl Follower {
         let states = cert.states.as_slice();
         let begun = begins(plant, states, cert.task, self.state, step);
         let active = is_active(&states[step.to], cert.task);
-        if has_lasted_over(cert.bound, end, self.since) || begun && lasts_over(cert.bound, end, start) {
+        if has_lasted_over(cert.bound, end, self.since)
+            || begun && lasts_over(cert.bound, end, start)
+        {
             return Some(TraceVerdict::OverBound { event: place });
         }
         self.since = since_after(begun, active, start, self.since);
         self.state = step.to;
         self.last_start = start;
-        self.latest = self.latest.max(end);
+        self.latest = greater(self.latest, end);
         None
     }
+}
+
+/// Whether an earlier arrival of the source is nearer than its distance, or it arrives once.
+fn is_too_close(moments: &Moments, system: &System, timing: &Timing, at: u64, source: usize) -> bool
+    requires { source < length moments.now.sets.items }
+    ensures { (count : ℕ) (arrivals : List Arrival) → AreKept moments.now.sets.items count arrivals
+        → result ≡ list_any (working.is_near_by system.now timing.now source at)
+        (words.moments_of source arrivals) }
+{
+    let kind = Source::at(system, source);
+    let once = kind.is_one_shot(system);
+    let distance = distance_of(system, timing, kind);
+    moments.has_near(source, at, once, distance)
+}
+
+fn isnt_pending(pending: &[bool], source: usize) -> bool
+    requires { source < length pending.now }
+    ensures { result ≡ not (slice_index_or pending.now source false) }
+{
+    !pending[source]
+}
+
+fn greater(a: u64, b: u64) -> u64
+    ensures { result ≡ max a b }
+{
+    if a < b { b } else { a }
 }
 
 fn is_live(plant: &Plant, state: &AbsState, source: usize) -> bool

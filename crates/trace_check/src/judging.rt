@@ -89,13 +89,13 @@ fn start_at(
 ) -> Result<Follower, Memory>
     ensures { (states : List StateData) (at : StateData) → slice_get states state ≡ Some at
         → IfOk result (λ follower. Follows plant.now states follower (record {
-        state = at;
-        pending = replicate (source_count plant.now.system) false;
-        last_start = 0;
-        latest = 0;
-        arrivals = [];
-        since = since;
-    })) }
+          state = at;
+          pending = replicate (source_count plant.now.system) false;
+          last_start = 0;
+          latest = 0;
+          arrivals = [];
+          since = since;
+        })) }
 {
     plant.belongs_together();
     let sources = Source::count(&plant.system);
@@ -141,7 +141,15 @@ fn judge_on(
 {
     let events = trace.events.as_slice();
     for place in 0..events.len() {
-        if let Some(verdict) = follow(alloc, plant, cert, tables, follower, place, &events[place])? {
+        if let Some(verdict) = follow(
+            alloc,
+            plant,
+            cert,
+            tables,
+            follower,
+            place,
+            &events[place],
+        )? {
             return Ok(verdict);
         }
     }
@@ -169,7 +177,9 @@ fn follow(
     match event {
         Event::Arrive { at, source } => follower.arrive(plant, cert, place, *at, *source),
         Event::Take { start, end, source } => {
-            take(alloc, plant, cert, tables, follower, place, *start, *end, *source)
+            take(
+                alloc, plant, cert, tables, follower, place, *start, *end, *source,
+            )
         }
         Event::Service {
             start,

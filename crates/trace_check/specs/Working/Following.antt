@@ -1,5 +1,5 @@
 -- A follower in code, against how far the events were followed.
-use Rattle.std.specs.Prelude.{◌≡◌, ℕ, ◌<◌, ◌||◌, List, length, is_none, slice_get, Option, Some, None, option_map, IfSome, if◌then◌else◌}
+use Rattle.std.specs.Prelude.{◌≡◌, ℕ, ◌<◌, ◌||◌, List, drop, length, is_none, slice_get, Option, Some, None, option_map, IfSome, if◌then◌else◌}
 use Rattle.std.specs.Option.{option_map_or}
 use Rattle.osek_kernel.specs.Sources.{source_count}
 use Rattle.wcet_atomic_blocks.specs.Plants.{PlantData}
@@ -8,12 +8,14 @@ use Rattle.row_build.specs.Columns.{Going}
 use Rattle.certificate.specs.declared.cert.Cert.{Cert}
 use Rattle.trace_check.specs.declared.follower.Follower as code
 use Rattle.trace_check.specs.declared.tables.Step.{Step}
+use Rattle.trace_check.specs.declared.tables.Tables.{Tables}
 use Rattle.trace_check.specs.declared.trace.Event.{Event}
+use Rattle.trace_check.specs.declared.trace.Trace.{Trace}
 use Rattle.trace_check.specs.declared.verdict.TraceVerdict.{TraceVerdict}
 use Rattle.trace_check.specs.declared.verdict.TraceVerdict.TheVariants.{NotAWalk, OverBound}
-use Rattle.trace_check.specs.Verdict.{Follower, Times, move_of, moved, followed, fault_at, has_lasted_over, begins_over}
+use Rattle.trace_check.specs.Verdict.{Follower, Times, move_of, moved, followed, fault_at, has_lasted_over, begins_over, verdict_from, verdict_of}
 use Rattle.trace_check.specs.Working.Arrived.{AreKept}
-use Rattle.trace_check.specs.Working.Tables.{going_of}
+use Rattle.trace_check.specs.Working.Tables.{going_of, AreTables}
 
 pub record Follows (plant : PlantData) (states : List AbsState) (follower : code.Follower) (f : Follower) : Type 0 where
   pub state : slice_get states follower.state ≡ Some f.state
@@ -56,3 +58,12 @@ abbrev pub Goes : PlantData → Cert → ℕ → Follower → Event → code.Fol
 Goes plant cert place f event after (Some verdict) = fault_at plant cert.task cert.bound place f event ≡ Some verdict
 Goes plant cert place f event after None =
     (fault_at plant cert.task cert.bound place f event ≡ None) × Follows plant cert.states after (followed plant cert.task f event)
+
+-- ---- All of them
+
+-- The events before this place have no fault, and were followed; the verdict is that of the others.
+pub record Judging (plant : PlantData) (cert : Cert) (trace : Trace) (tables : Tables) (follower : code.Follower) (place : ℕ) : Type 0 where
+  pub f : Follower
+  pub follows : Follows plant cert.states follower f
+  pub tables_are : AreTables plant cert.states tables
+  pub rest : verdict_from plant cert.task cert.bound trace.end place f (drop place trace.events) ≡ verdict_of plant cert.task cert.bound trace

@@ -1,7 +1,10 @@
 -- Words of the verdict over the parts of a follower.
 use Rattle.std.specs.Prelude.{ℕ, ◌||◌, nat_lt, Bool, false, List, position, Option, Some, None, if◌then◌else◌}
 use Rattle.std.specs.Option.{option_map_or}
-use Rattle.osek_kernel.specs.Sources.{source_at, is_live}
+use Rattle.oil_model.specs.declared.system.System.{System}
+use Rattle.timing_file.specs.declared.timing.Timing.{Timing}
+use Rattle.osek_kernel.specs.Sources.{source_at, is_live, is_one_shot}
+use Rattle.osek_machine.specs.Declarations.{distance_of, gap}
 use Rattle.flow_graph.specs.declared.node.Node.{Node}
 use Rattle.wcet_atomic_blocks.specs.Plants.{PlantData}
 use Rattle.abstract_sched.specs.declared.states.AbsState.{AbsState}
@@ -21,3 +24,7 @@ since_by begun active start since = if begun then Some start else (if active the
 
 abbrev pub node_among : List Node → Node → Option ℕ
 node_among nodes node = position (is_node node.context node.sites node.address) nodes
+
+abbrev pub is_near_by : System → Timing → ℕ → ℕ → ℕ → Bool
+is_near_by system timing source at other =
+    is_one_shot system (source_at system source) || nat_lt (gap at other) (distance_of system timing (source_at system source))
