@@ -1,0 +1,13 @@
+//! Trees of cuts: a bound over rows for points that are whole numbers. A cut parts the values of one
+//! column, and at each leaf multipliers show the bound for the rows and those of the cuts above it.
+//! `specs/Good.antt` says which trees are good and what fails in others, `specs/Laws.antt` that a good
+//! one bounds the cost of whole numbers that meet the rows.
+#![tactic(auto)]
+
+mod side;
+mod tree;
+mod verdict;
+
+pub use side::Side;
+pub use tree::{Numbers, SplitNode, SplitTree};
+pub use verdict::TreeVerdict;
