@@ -48,8 +48,8 @@ fn judge_on<F: Files>(
     files: &mut F,
 ) -> Result<Bytes, Halt>
     requires { analysed.now.task < length analysed.now.plant.system.tasks }
-    ensures { words.JudgeOn (IsCall F.outside F.reads) certificate.now trace.now name.now analysed.now
-        files.old result files.new }
+    ensures { words.JudgeOn (IsCall F.outside F.reads) certificate.now trace.now name.now
+        analysed.now files.old result files.new }
 {
     let cert = good_certificate(alloc, analysed, certificate, name, files)?;
     judge_by(alloc, &analysed.plant, trace, &cert, files)
@@ -63,8 +63,8 @@ fn good_certificate<F: Files>(
     name: &str,
     files: &mut F,
 ) -> Result<Cert, Halt>
-    ensures steps { words.GoodCertificate (IsCall F.outside F.reads) certificate.now name.now analysed.now
-        files.old result files.new }
+    ensures steps { words.GoodCertificate (IsCall F.outside F.reads) certificate.now name.now
+        analysed.now files.old result files.new }
     ensures lawful { IfOk result (IsLawful (rules_of analysed.now.plant) analysed.now.task) }
     ensures closed { IfOk result (λ cert. IsClosed analysed.now.plant cert.states) }
 {

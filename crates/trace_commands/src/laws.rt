@@ -1,5 +1,5 @@
-//! The law of what `trace judge` says. The function does nothing: its contract is a theorem over the
-//! definitions.
+//! The law of what `trace judge` says. The function does nothing: its contract is a theorem over
+//! the definitions.
 ghost use Rattle.command_steps.specs.Steps.{IsCall};
 ghost use Rattle.trace_commands.specs.Laws.{RecordingsAreSaidToFit};
 

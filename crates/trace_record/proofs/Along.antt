@@ -143,7 +143,8 @@ begins_within plant states task bound mode event earlier before after going give
     by true is =
         let known : active_since plant.system mode task (event ∷ earlier) ≡ Some (duration earlier) =
         sym since
-        ∙ ap (λ b. cond b (Some (duration earlier)) (cond (is_active_in going.move.to (contexts.Task task)) (active_since plant.system mode task earlier) None)) is in
+        ∙ ap (λ b. cond b (Some (duration earlier)) (cond (is_active_in going.move.to (contexts.Task task))
+        (active_since plant.system mode task earlier) None)) is in
         le-ltb bound (duration earlier + cycles_of event - duration earlier)
         (open_within plant task bound mode (event ∷ earlier) (duration earlier) given.exists given.within known)
 
@@ -195,7 +196,8 @@ arrive_on plant states task bound mode a earlier before after f given follows =
       follows = record {
         state_is = follows.state_is ∙ sym same;
         pending_is = ap (λ p. slice_set p a.source true) follows.pending_is ∙ ap (λ (s : MachineState). s.pending) (sym step.becomes);
-        started = (let was = follows.started in let is : after.last_start ≡ before.last_start = ap (λ (s : MachineState). s.last_start) step.becomes in omega arith);
+        started = (let was = follows.started in
+            let is : after.last_start ≡ before.last_start = ap (λ (s : MachineState). s.last_start) step.becomes in omega arith);
         latest = (let was = follows.latest in let past = step.past in
             let is : after.moment ≡ before.moment = ap (λ (s : MachineState). s.moment) step.becomes in omega arith);
         arrivals_are = λ source. ap (cons_option (cond (a.source == source) (Some a.moment) None)) (follows.arrivals_are source);
@@ -278,12 +280,14 @@ take_on plant states task bound mode t earlier before after f given follows =
     record {
       sound = (
         record {
-          walks = or_false (has_wrong_times f (times_by (Take t) earlier)) (not (slice_index_or f.pending t.source false) || is_none (move_of plant f.state event))
+          walks = or_false (has_wrong_times f (times_by (Take t) earlier))
+              (not (slice_index_or f.pending t.source false) || is_none (move_of plant f.state event))
               (right_times plant task mode (Take t) earlier before after f times follows)
               (or_false (not (slice_index_or f.pending t.source false)) (is_none (move_of plant f.state event))
               (ap (λ p. not (slice_index_or p t.source false)) follows.pending_is ∙ ap not step.pending) (ap is_none found));
           apart = refl;
-          within = within_bound plant states task bound mode (Take t) earlier before after f going (move_of plant f.state event) given follows.since_is since found;
+          within = within_bound plant states task bound mode (Take t) earlier before after f going (move_of plant f.state event) given
+              follows.since_is since found;
         },
         tt,
       );
@@ -333,7 +337,8 @@ serve_on plant states task bound mode c earlier before after f given follows =
           walks = or_false (has_wrong_times f (times_by (Serve c) earlier)) (is_none (move_of plant f.state event))
               (right_times plant task mode (Serve c) earlier before after f times follows) (ap is_none found);
           apart = refl;
-          within = within_bound plant states task bound mode (Serve c) earlier before after f going (move_of plant f.state event) given follows.since_is since found;
+          within = within_bound plant states task bound mode (Serve c) earlier before after f going (move_of plant f.state event) given
+              follows.since_is since found;
         },
         tt,
       );
@@ -422,7 +427,8 @@ start_follows plant states task mode state case =
       started = omega arith;
       latest = omega arith;
       arrivals_are = λ source. refl;
-      since_is = ap (λ (k : Kernel). cond {A = Option ℕ} (is_some (task_state k task)) (Some 0) None) kernel ∙ start_since (task_state (initial plant.system mode) task);
+      since_is = ap (λ (k : Kernel). cond {A = Option ℕ} (is_some (task_state k task)) (Some 0) None) kernel
+          ∙ start_since (task_state (initial plant.system mode) task);
     }
 
 -- What holds of the run so far.

@@ -1,9 +1,9 @@
 //! Recordings of runs, and that they fit.
 //!
 //! `recorded(alloc, &plant, &schedule)?` is the recording of the run that the schedule plays.
-//! `specs/Recording.antt` says what the recording of a run is, `specs/Recorded.antt` what `recorded`
-//! answers, and `specs/Fitting.antt` which recordings fit: the laws are contracts of functions that do
-//! nothing.
+//! `specs/Recording.antt` says what the recording of a run is, `specs/Recorded.antt` what
+//! `recorded` answers, and `specs/Fitting.antt` which recordings fit: the laws are contracts of
+//! functions that do nothing.
 #![tactic(auto)]
 
 mod fault;

@@ -38,8 +38,8 @@ impl Recorder {
         }
     }
 
-    /// Records the step that the turn tells, and says whether it tells one. With it so many steps were
-    /// made.
+    /// Records the step that the turn tells, and says whether it tells one. With it so many steps
+    /// were made.
     pub(crate) fn note(&mut self, plant: &Plant, turn: Turn, made: u64) -> Result<bool, Memory>
         requires context { ServesContext plant.now.system turn }
         requires room { HasRoom self.old.count made turn }

@@ -15,9 +15,9 @@ use std::alloc::Global;
 use trace_check::Trace;
 use wcet_atomic_blocks::Plant;
 
-/// The recording of the run that the schedule plays over the plant: its arrivals, takes and services up
-/// to its end. Or else its first step that breaks what is declared, or that misuses a service, as `play`
-/// tells it; or, where it is played to its end, that the recording has more than 65,536 events.
+/// The recording of the run that the schedule plays over the plant: its arrivals, takes and services
+/// up to its end. Or else its first step that breaks what is declared, or that misuses a service, as
+/// `play` tells it; or, where it is played to its end, that there are more than 65,536 events.
 pub fn recorded(alloc: Global, plant: &Plant, schedule: &Schedule) -> Result<Trace, RecordFault>
     requires { IsLawful plant.now.system schedule.now }
     ensures gives { RecordGives plant.now schedule.now result }
