@@ -4,3 +4,7 @@ mod Laws
 mod NameTexts
 mod NamesBack
 mod Written
+mod Arriving
+mod Tabling
+mod Following
+mod NodePlaces

@@ -35,7 +35,7 @@ name_back (name ∷ names) (suc place) apart below =
 
 -- ---- two lists
 
-alike : (x y : Bool) → (x ≡ true → y ≡ true) → (y ≡ true → x ≡ true) → x ≡ y
+pub alike : (x y : Bool) → (x ≡ true → y ≡ true) → (y ≡ true → x ≡ true) → x ≡ y
 alike true y there back = sym (there refl)
 alike false true there back = back refl
 alike false false there back = refl
