@@ -6,6 +6,7 @@ use Rattle.command_steps.proofs.Honest.{IsHonest, judged}
 use Rattle.reports.specs.Refusals.{words_refusal}
 use Rattle.bound_commands.proofs.Honest.{check_honest, bound_honest, certify_honest, all_honest}
 use Rattle.show_commands.proofs.Honest.{show_oil_honest, show_code_honest, replay_honest}
+use Rattle.trace_commands.proofs.Honest.{trace_record_honest, trace_judge_honest}
 use Rattle.syswcet.specs.declared.words.Command.{Command}
 use Rattle.syswcet.specs.declared.words.Command.TheVariants as command
 use Rattle.syswcet.specs.Commands.{files_of, StepsOf}
@@ -24,6 +25,7 @@ honest outside reads (Some (command.Replay oil elf timing schedule)) = replay_ho
 honest outside reads (Some (command.Loops oil elf timing task states)) = judged outside (files_of (Some (command.Loops oil elf timing task states))) (λ given. given ≡ Err words_refusal)
 honest outside reads (Some (command.SplitFind oil elf timing task states bound cuts)) = judged outside (files_of (Some (command.SplitFind oil elf timing task states bound cuts))) (λ given. given ≡ Err words_refusal)
 honest outside reads (Some (command.SplitCheck oil elf timing task certificate)) = judged outside (files_of (Some (command.SplitCheck oil elf timing task certificate))) (λ given. given ≡ Err words_refusal)
-honest outside reads (Some (command.TraceRecord oil elf timing schedule)) = judged outside (files_of (Some (command.TraceRecord oil elf timing schedule))) (λ given. given ≡ Err words_refusal)
-honest outside reads (Some (command.TraceJudge oil elf timing task certificate trace)) = judged outside (files_of (Some (command.TraceJudge oil elf timing task certificate trace))) (λ given. given ≡ Err words_refusal)
+honest outside reads (Some (command.TraceRecord oil elf timing schedule)) = trace_record_honest outside reads oil elf timing schedule
+honest outside reads (Some (command.TraceJudge oil elf timing task certificate trace)) =
+    trace_judge_honest outside reads oil elf timing task certificate trace
 honest outside reads (Some (command.Demo seed tasks)) = judged outside (files_of (Some (command.Demo seed tasks))) (λ given. given ≡ Err words_refusal)

@@ -11,6 +11,8 @@ use Rattle.show_commands.specs.Replay.{Replay}
 use Rattle.show_commands.specs.ShowCode.{ShowCode}
 use Rattle.show_commands.specs.ShowOil.{ShowOil}
 use Rattle.bound_commands.specs.Solving.{Bound, Certify}
+use Rattle.trace_commands.specs.Judge.{TraceJudge}
+use Rattle.trace_commands.specs.Record.{TraceRecord}
 
 -- the names of the files that a command reads; words that have no shape name none
 abbrev pub files_of : Option Command → List (List ℕ)
@@ -45,6 +47,6 @@ StepsOf calls (Some (command.Replay oil elf timing schedule)) = Replay calls oil
 StepsOf calls (Some (command.Loops oil elf timing task states)) = NotBuilt
 StepsOf calls (Some (command.SplitFind oil elf timing task states bound cuts)) = NotBuilt
 StepsOf calls (Some (command.SplitCheck oil elf timing task certificate)) = NotBuilt
-StepsOf calls (Some (command.TraceRecord oil elf timing schedule)) = NotBuilt
-StepsOf calls (Some (command.TraceJudge oil elf timing task certificate trace)) = NotBuilt
+StepsOf calls (Some (command.TraceRecord oil elf timing schedule)) = TraceRecord calls oil elf timing schedule
+StepsOf calls (Some (command.TraceJudge oil elf timing task certificate trace)) = TraceJudge calls oil elf timing task certificate trace
 StepsOf calls (Some (command.Demo seed tasks)) = NotBuilt

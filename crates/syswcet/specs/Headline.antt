@@ -12,6 +12,7 @@ use Rattle.inputs.specs.Meaning.{AreBytesOf, OfSystem, BoundsSubject}
 use Rattle.inputs.specs.Subjects.{name_of}
 use Rattle.bound_commands.specs.Bounded.{BoundsAll, HasBound}
 use Rattle.show_commands.specs.Shown.{ShowsLayout, ShowsCode, ReplaysSchedule}
+use Rattle.trace_commands.specs.Meaning.{RecordsRun, JudgesFit}
 use Rattle.syswcet.specs.declared.words.Command.{Command}
 use Rattle.syswcet.specs.declared.words.Command.TheVariants as command
 
@@ -33,8 +34,10 @@ SaysTruly Bytes (Some (command.Replay oil elf timing schedule)) text =
 SaysTruly Bytes (Some (command.Loops oil elf timing task states)) text = ⊥
 SaysTruly Bytes (Some (command.SplitFind oil elf timing task states bound cuts)) text = ⊥
 SaysTruly Bytes (Some (command.SplitCheck oil elf timing task certificate)) text = ⊥
-SaysTruly Bytes (Some (command.TraceRecord oil elf timing schedule)) text = ⊥
-SaysTruly Bytes (Some (command.TraceJudge oil elf timing task certificate trace)) text = ⊥
+SaysTruly Bytes (Some (command.TraceRecord oil elf timing schedule)) text =
+    (s : List ℕ) × Bytes schedule s × OfSystem Bytes oil elf timing (RecordsRun s text)
+SaysTruly Bytes (Some (command.TraceJudge oil elf timing task certificate trace)) text =
+    (b : List ℕ) × Bytes trace b × OfSystem Bytes oil elf timing (JudgesFit task b text)
 SaysTruly Bytes (Some (command.Demo seed tasks)) text = ⊥
 
 -- A text was written whole, and it says what the command is for.

@@ -14,6 +14,7 @@ use listed::Memory;
 use reports::words_refusal;
 use show_commands::{replayed, show_code, show_oil};
 use std::alloc::Global;
+use trace_commands::{trace_judged, trace_recorded};
 use wcet_io::{Bytes, Files, Sink, SureFiles, SureSink, Words};
 
 /// Runs one command: `words` are those of the command line without the program's name, files are
@@ -98,8 +99,20 @@ fn answer_command<F: Files>(alloc: Global, command: &Command, files: &mut F) -> 
         Command::Loops { .. } => no_command(alloc),
         Command::SplitFind { .. } => no_command(alloc),
         Command::SplitCheck { .. } => no_command(alloc),
-        Command::TraceRecord { .. } => no_command(alloc),
-        Command::TraceJudge { .. } => no_command(alloc),
+        Command::TraceRecord {
+            oil,
+            elf,
+            timing,
+            schedule,
+        } => trace_recorded(alloc, oil, elf, timing, schedule, files),
+        Command::TraceJudge {
+            oil,
+            elf,
+            timing,
+            task,
+            certificate,
+            trace,
+        } => trace_judged(alloc, oil, elf, timing, task, certificate, trace, files),
         Command::Demo { .. } => no_command(alloc),
     }
 }
