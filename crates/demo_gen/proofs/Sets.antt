@@ -55,11 +55,10 @@ apart_append (x ∷ xs) ys first then across = (each_append (λ y. x ≢ y) xs y
 
 apart_cons : (b : Bool) (xs : List (List Bool)) → Apart xs → Apart (map (λ set. b ∷ set) xs)
 apart_cons b [] apart = tt
-apart_cons b (x ∷ xs) apart =
-    (
-      each_map (λ y. (b ∷ x) ≢ y) (λ set. b ∷ set) xs (each_weaker (λ y. x ≢ y) (λ y. (b ∷ x) ≢ (b ∷ y)) (λ y differ same. differ (cc)) xs apart.0),
-      apart_cons b xs apart.1,
-    )
+apart_cons b (x ∷ xs) apart = (
+  each_map (λ y. (b ∷ x) ≢ y) (λ set. b ∷ set) xs (each_weaker (λ y. x ≢ y) (λ y. (b ∷ x) ≢ (b ∷ y)) (λ y differ same. differ (cc)) xs apart.0),
+  apart_cons b xs apart.1,
+)
 
 apart_kept : (x : List Bool) (rest : List (List Bool)) (b : Bool) → AllByRecursion (λ y. x ≢ y) rest → Apart rest → Apart (cond b (x ∷ rest) rest)
 apart_kept x rest true first then = (first, then)

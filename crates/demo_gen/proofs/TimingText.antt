@@ -72,8 +72,7 @@ are_read : (number entry : ℕ) (tasks : List DemoTask) → number + length task
     → Follow number entry tasks → AllByRecursion IsRead tasks
 are_read number entry [] few low aligned follow = tt
 are_read number entry (task ∷ tasks) few low aligned follow =
-    let is = follow.0 in
-    (
+    let is = follow.0 in (
       record {
         from = omega (arith, is.entry_is, is.few);
         to = omega (arith, is.entry_is, is.few);

@@ -170,18 +170,16 @@ empty_spelled follow are = are
 
 plain_spelled : (name : List ℕ) (v : Value) (others : Block) → is_name name ≡ true → IsSpelled v → IsSpelledBlock others → IsSpelledBlock (plain name v None others)
 unfolding block_tokens
-plain_spelled name v others is spelled later follow are =
-    (
-      named name (literal name is),
-      ((61 ∷ [], λ rest. first_equals (32 ∷ rest)), (spelled, ((59 ∷ [], λ rest. first_semicolon (32 ∷ rest)), later follow are))),
-    )
+plain_spelled name v others is spelled later follow are = (
+  named name (literal name is),
+  ((61 ∷ [], λ rest. first_equals (32 ∷ rest)), (spelled, ((59 ∷ [], λ rest. first_semicolon (32 ∷ rest)), later follow are))),
+)
 
 braced_spelled : (name : List ℕ) (v : Value) (inner others : Block) → is_name name ≡ true → IsSpelled v → IsSpelledBlock inner → IsSpelledBlock others
     → IsSpelledBlock (braced name v inner None others)
 unfolding block_tokens
 braced_spelled name v inner others is spelled within later follow are =
-    let end = closing_spelled (block_tokens others follow) (later follow are) in
-    (
+    let end = closing_spelled (block_tokens others follow) (later follow are) in (
       named name (literal name is),
       (
         (61 ∷ [], λ rest. first_equals (32 ∷ rest)),
@@ -245,23 +243,22 @@ all_spelled tasks follow each are =
 
 file_spelled : (tasks : List DemoTask) → AllByRecursion IsWritten tasks → AreSpelled (file_tokens (the_file tasks))
 unfolding block_tokens
-file_spelled tasks each =
+file_spelled tasks each = (
+  named (codes "OIL_VERSION") (literal (codes "OIL_VERSION") refl),
+  (
+    (61 ∷ [], λ rest. first_equals (32 ∷ rest)),
     (
-      named (codes "OIL_VERSION") (literal (codes "OIL_VERSION") refl),
+      (quoted_layout (codes "2.5"), λ rest. first_text (codes "2.5") (32 ∷ rest) (refl, (refl, (refl, tt)))),
       (
-        (61 ∷ [], λ rest. first_equals (32 ∷ rest)),
+        (59 ∷ [], λ rest. first_semicolon (32 ∷ rest)),
         (
-          (quoted_layout (codes "2.5"), λ rest. first_text (codes "2.5") (32 ∷ rest) (refl, (refl, (refl, tt)))),
-          (
-            (59 ∷ [], λ rest. first_semicolon (32 ∷ rest)),
-            (
-              named (codes "CPU") (literal (codes "CPU") refl),
-              (named (codes "Demo") (literal (codes "Demo") refl), ((123 ∷ [], λ rest. first_open (32 ∷ rest)), all_spelled tasks (closing []) each (closing_spelled [] tt))),
-            ),
-          ),
+          named (codes "CPU") (literal (codes "CPU") refl),
+          (named (codes "Demo") (literal (codes "Demo") refl), ((123 ∷ [], λ rest. first_open (32 ∷ rest)), all_spelled tasks (closing []) each (closing_spelled [] tt))),
         ),
       ),
-    )
+    ),
+  ),
+)
 
 -- ---- The tree has a text
 
