@@ -1,8 +1,8 @@
 -- The take columns are the places of flags.
-use Rattle.std.proofs.Common.{◌≡◌, ℕ, zero, suc, ◌+◌, ◌<◌, Bool, true, false, cond, List, [], ◌∷◌, ◌++◌, length, map, get_or, take, pos, All, refl, sym, ap, subst, ◌∙◌, zero-add, arith}
+use Rattle.std.proofs.Common.{◌≡◌, ℕ, suc, ◌+◌, ◌<◌, Bool, true, false, cond, List, [], ◌∷◌, ◌++◌, length, map, get_or, take, pos, All, refl, sym, ap, subst, ◌∙◌, zero-add, arith}
 use Rattle.std.specs.Prelude.{filter}
-use Rattle.std.specs.List.{flat_map, range_with_len}
-use Rattle.std.proofs.lemmas.List.{append-nil, length-append, length-map, length-take-le, map-append, map_more, take_more}
+use Rattle.std.specs.List.{range_with_len}
+use Rattle.std.proofs.lemmas.List.{append-nil, length-map, length-take-le, map-append, take_more}
 use Rattle.std.proofs.lemmas.List.Elements.{All-cons, All-nil}
 use Rattle.osek_kernel.specs.declared.context.Context.TheVariants as contexts
 use Rattle.wcet_atomic_blocks.specs.Plants.{PlantData}
@@ -10,7 +10,7 @@ use Rattle.abstract_sched.specs.declared.states.AbsState.{AbsState}
 use Rattle.scheduler_moves.specs.Moves.{initial}
 use Rattle.row_build.specs.Columns
 use Rattle.row_build.specs.Rows.{rows_of}
-use Rattle.row_build.proofs.Growing.{flat_more, numbers_more}
+use Rattle.row_build.proofs.Growing.{numbers_more}
 use Rattle.split_search.specs.declared.moves.TaskMove.{TaskMove}
 use Rattle.split_search.specs.Takes.{is_take, places_from, take_columns, takes}
 use Rattle.split_search.specs.Working.Flags.{count_flags, flags_of, mode_flags, start_flags}

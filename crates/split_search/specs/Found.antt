@@ -5,7 +5,6 @@ use Rattle.split_trees.specs.Tree.{Tree}
 use Rattle.wcet_atomic_blocks.specs.Plants.{PlantData}
 use Rattle.abstract_sched.specs.declared.states.AbsState.{AbsState}
 use Rattle.row_build.specs.Rows.{rows_of}
-use Rattle.cut_search.specs.Answers.{SaysSearch}
 use Rattle.cut_search.specs.Search.{Ending, search_over}
 use Rattle.cut_search.specs.declared.fault.SplitFault.{SplitFault}
 use Rattle.split_cert.specs.declared.cert.SplitCert.{SplitCert}

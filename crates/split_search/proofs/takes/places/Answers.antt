@@ -1,4 +1,4 @@
-use Rattle.std.proofs.Common.{◌≡◌, ℕ, ◌++◌, ◌∷◌, [], List, cond, false, get_or, sym, ◌∙◌, ap}
+use Rattle.std.proofs.Common.{ℕ, ◌++◌, ◌∷◌, [], List, cond, false, get_or, sym, ◌∙◌, ap}
 use Rattle.split_search.proofs.TakePlaces.{places_more}
 use Rattle.split_search.proofs.takes.places.Goals as goal
 

@@ -1,4 +1,4 @@
-use Rattle.std.proofs.Common.{◌≡◌, ◌++◌, ◌∷◌, [], Bool, List, cond, false, sym, ◌∙◌, ap, append_assoc}
+use Rattle.std.proofs.Common.{◌++◌, ◌∷◌, [], Bool, List, cond, false, sym, ◌∙◌, ap, append_assoc}
 use Rattle.osek_kernel.specs.declared.context.Context.TheVariants as contexts
 use Rattle.scheduler_moves.specs.Moves.{initial}
 use Rattle.row_build.specs.Columns.{is_active_in}
