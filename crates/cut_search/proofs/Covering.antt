@@ -1,20 +1,17 @@
 -- A leaf's multipliers cover the columns that those of the node's rows cover.
-use Rattle.std.proofs.Common.{◌≡◌, ◌≢◌, ℕ, zero, suc, ◌+◌, ◌-◌, ◌<◌, ◌≤◌, ◌==◌, Bool, true, false, cond, List, [], ◌∷◌, ◌++◌, map, length, get_or, take, drop, replicate, ℤ, pos, negsuc, ◌+ℤ◌, ◌*ℤ◌, ◌≤ℤ◌, Option, Some, None, All, refl, sym, ap, subst, ◌∙◌, arith, zero-add}
+use Rattle.std.proofs.Common.{◌≡◌, ℕ, zero, suc, ◌+◌, ◌-◌, ◌<◌, ◌==◌, Bool, false, cond, List, [], ◌∷◌, ◌++◌, map, length, get_or, take, drop, replicate, ℤ, pos, negsuc, ◌+ℤ◌, ◌*ℤ◌, Option, Some, None, refl, sym, ap, ◌∙◌, arith}
 use Rattle.std.specs.List.{range_with_len}
 use Rattle.std.proofs.lemmas.Bool.{ne_eqb}
 use Rattle.std.proofs.lemmas.Int.{ints}
 use Rattle.std.proofs.lemmas.List.{append-nil, map-append, length-append, length-map, length-replicate, replicate_more}
-use Rattle.std.proofs.lemmas.List.FromFn.{get_or-map-range_with_len}
-use Rattle.whole_rows.specs.Rows.{RowsData, product_sum}
-use Rattle.whole_rows.specs.Terms.{entry_of, row_of_terms}
-use Rattle.whole_rows.specs.declared.Term.{Term}
+use Rattle.whole_rows.specs.Rows.{product_sum}
+use Rattle.whole_rows.specs.Terms.{entry_of}
 use Rattle.split_trees.specs.declared.side.Side.{Side}
 use Rattle.split_trees.specs.declared.side.Side.TheVariants.{AtMost, Above}
-use Rattle.split_trees.specs.Sides.{row_of, term_of}
+use Rattle.split_trees.specs.Sides.{term_of}
 use Rattle.cut_search.specs.declared.limits.Limits.{Limits}
 use Rattle.cut_search.specs.Leaves.{high_sides, low_sides, sides_of, high_multipliers, low_multipliers, side_multipliers, row_count, upper_count, lower_count}
 use Rattle.cut_search.specs.Nodes.{LimitRow, further_count, limit_rows, lower_rows, upper_rows}
-use Rattle.cut_search.specs.Working.Nodes.{LieWithin}
 use Rattle.cut_search.proofs.LeafParts.{sides_of-append}
 use Rattle.cut_search.proofs.NodeRows.{limit_rows-cons}
 use Rattle.cut_search.proofs.Products.{product_sum-append, product_sum-parts, product_sum-take, product_sum-one, product_sum-two, product_sum-three, product_sum-last}

@@ -1,22 +1,21 @@
 -- A leaf is good where the multipliers of its node's rows cover their columns and it meets the bound.
-use Rattle.std.proofs.Common.{◌≡◌, ℕ, ◌+◌, ◌*◌, ◌<◌, ◌≤◌, true, List, [], ◌∷◌, ◌++◌, map, length, get_or, take, drop, replicate, ℤ, pos, ◌+ℤ◌, ◌*ℤ◌, ◌≤ℤ◌, ◌<ℤ◌, All, refl, sym, ap, subst, ◌∙◌, arith, zero-add}
+use Rattle.std.proofs.Common.{◌≡◌, ℕ, ◌+◌, ◌<◌, ◌≤◌, true, List, [], ◌∷◌, ◌++◌, map, length, get_or, take, drop, replicate, ℤ, pos, ◌+ℤ◌, ◌*ℤ◌, ◌≤ℤ◌, ◌<ℤ◌, All, refl, sym, ap, subst, ◌∙◌, arith, zero-add}
 use Rattle.std.specs.Prelude.{int_lt}
 use Rattle.std.proofs.lemmas.Int.{ints}
 use Rattle.std.proofs.lemmas.List.{append-nil, map-append, length-append, length-map, length-take-le}
 use Rattle.std.proofs.lemmas.List.Elements.{All-head, All-tail}
 use Rattle.std.proofs.lemmas.List.FromFn.{get_or-map-range_with_len}
 use Rattle.std.proofs.Math.ListN.{get_or-append}
-use Rattle.whole_rows.specs.Duals.{AreGood, CoversColumns}
-use Rattle.whole_rows.specs.Rows.{RowsData, IsShaped, column_of, column_sum, cost_at, product_sum, right_sum}
+use Rattle.whole_rows.specs.Duals.{CoversColumns}
+use Rattle.whole_rows.specs.Rows.{RowsData, IsShaped, column_of, column_sum, cost_at, product_sum}
 use Rattle.whole_rows.specs.Terms.{entry_of, row_of_terms}
 use Rattle.split_trees.specs.declared.side.Side.{Side}
 use Rattle.split_trees.specs.Sides.{row_of, split_rows, term_of}
 use Rattle.cut_search.specs.declared.limits.Limits.{Limits}
 use Rattle.cut_search.specs.Leaves.{high_multipliers, high_sides, leaf_multipliers, low_multipliers, low_sides, row_count, side_multipliers, sides_of, upper_count}
 use Rattle.cut_search.specs.Nodes.{LimitRow, further_cost, further_count, limit_rows, node_rows}
-use Rattle.cut_search.specs.Search.{meets_bound}
 use Rattle.cut_search.proofs.Covering.{limit_entry, limits_part, side_count, side_entry}
-use Rattle.cut_search.proofs.Products.{product_sum-append, product_sum-parts, product_sum-take}
+use Rattle.cut_search.proofs.Products.{product_sum-append, product_sum-parts}
 
 -- ---- The entries of one column
 

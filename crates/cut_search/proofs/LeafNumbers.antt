@@ -1,11 +1,11 @@
 -- The multipliers of a leaf are as many as its rows, cover its columns and are small, and its sides too.
-use Rattle.std.proofs.Common.{◌≡◌, ℕ, zero, suc, ◌+◌, ◌-◌, ◌*◌, ◌^◌, ◌<◌, ◌≤◌, ◌==◌, Bool, true, false, cond, List, [], ◌∷◌, ◌++◌, map, length, get_or, take, drop, replicate, ℤ, pos, ◌<ℤ◌, ◌≤ℤ◌, Option, Some, None, All, refl, sym, ap, subst, ◌∙◌, arith}
+use Rattle.std.proofs.Common.{◌≡◌, ℕ, zero, suc, ◌+◌, ◌-◌, ◌*◌, ◌^◌, ◌<◌, ◌==◌, Bool, true, false, cond, List, [], ◌∷◌, ◌++◌, map, length, get_or, take, drop, replicate, ℤ, pos, Option, Some, None, All, refl, sym, ap, subst, ◌∙◌, arith}
 use Rattle.std.specs.List.{range_with_len}
 use Rattle.std.specs.Prelude.{int_lt, unsigned_abs}
 use Rattle.std.proofs.lemmas.Int.{ints}
 use Rattle.std.proofs.lemmas.List.{length-append, length-map}
 use Rattle.std.proofs.lemmas.List.Elements.{All-append, All-cons, All-head, All-nil, All-replicate, All-tail}
-use Rattle.whole_rows.specs.Duals.{CoversColumns, IsFirstFailing, first_failing_of}
+use Rattle.whole_rows.specs.Duals.{IsFirstFailing, first_failing_of}
 use Rattle.whole_rows.specs.Rows.{RowsData, IsShaped, right_sum}
 use Rattle.whole_rows.specs.Terms.{row_of_terms}
 use Rattle.whole_rows.specs.declared.DualVerdict.{DualVerdict}
@@ -19,7 +19,7 @@ use Rattle.split_trees.specs.declared.side.Side.{Side}
 use Rattle.split_trees.specs.declared.side.Side.TheVariants.{AtMost, Above}
 use Rattle.cut_search.specs.declared.limits.Limits.{Limits}
 use Rattle.cut_search.specs.Leaves.{high_multipliers, high_sides, leaf_multipliers, low_multipliers, low_sides, row_count, side_multipliers, sides_of, upper_count}
-use Rattle.cut_search.specs.Nodes.{LimitRow, further_cost, further_count, limit_rows, node_rows}
+use Rattle.cut_search.specs.Nodes.{LimitRow, further_cost, further_count, limit_rows}
 use Rattle.cut_search.specs.Search.{meets_bound}
 use Rattle.cut_search.specs.Working.Leaves.{limit_row_count}
 use Rattle.cut_search.specs.Working.Limits.{HasSmallLimits, IsSmallHigh}

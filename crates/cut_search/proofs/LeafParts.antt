@@ -1,7 +1,6 @@
 -- Leaves, grown column by column.
 use Rattle.std.proofs.Common.{◌≡◌, ℕ, ◌+◌, ◌<◌, ◌≤◌, List, [], ◌∷◌, ◌++◌, length, get_or, take, drop, refl, sym, ap, ◌∙◌, append_assoc, arith}
-use Rattle.std.proofs.lemmas.List.{append-nil, drop-drop, take-append-drop, take_more}
-use Rattle.split_trees.specs.declared.side.Side.{Side}
+use Rattle.std.proofs.lemmas.List.{drop-drop, take-append-drop, take_more}
 use Rattle.cut_search.specs.declared.limits.Limits.{Limits}
 use Rattle.cut_search.specs.Leaves.{high_sides, low_sides, sides_of, high_multipliers, low_multipliers, side_multipliers, row_count, upper_count}
 use Rattle.cut_search.specs.Search.{no_limits}

@@ -1,16 +1,11 @@
 -- What a node is by the optimum of its rows, or by their refusal.
-use Rattle.std.proofs.Common.{◌≡◌, ℕ, zero, suc, ◌+◌, ◌*◌, ◌^◌, ◌<◌, ◌≤◌, Bool, true, false, cond, List, [], ◌∷◌, ◌++◌, map, length, get_or, take, drop, replicate, ℤ, pos, ◌*ℤ◌, ◌≤ℤ◌, ◌<ℤ◌, Option, Some, None, All, Result, Ok, Err, refl, sym, ap, subst, ◌∙◌, arith}
-use Rattle.std.specs.Prelude.{IfErr, IfOk, int_lt, unsigned_abs}
+use Rattle.std.proofs.Common.{◌≡◌, ℕ, ◌+◌, ◌*◌, Bool, true, cond, List, map, ℤ, pos, Option, All, Result, Ok, Err, refl, sym, ap, subst, ◌∙◌, arith}
+use Rattle.std.specs.Prelude.{IfErr, IfOk, unsigned_abs}
 use Rattle.std.proofs.lemmas.Int.{ints}
-use Rattle.std.proofs.lemmas.List.{get_or_past, length-append, length-map, map-append}
-use Rattle.std.proofs.lemmas.List.Elements.{All-append, All-cons, All-head, All-nil, All-replicate, All-tail}
-use Rattle.whole_rows.specs.Duals.{CoversColumns, IsFirstFailing, first_failing_of}
+use Rattle.whole_rows.specs.Duals.{CoversColumns}
 use Rattle.whole_rows.specs.Rows.{RowsData, IsShaped, right_sum}
-use Rattle.whole_rows.specs.declared.DualVerdict.{DualVerdict}
-use Rattle.whole_rows.specs.declared.DualVerdict.TheVariants.{Yes, Count, Column, Bound}
 use Rattle.whole_rows.proofs.Duality.{uncovered_by_ray}
-use Rattle.whole_rows.proofs.Verdicts.{first_failing_holds}
-use Rattle.whole_simplex.specs.Answers.{IsOptimum, IsSmall, IsUnboundedFault}
+use Rattle.whole_simplex.specs.Answers.{IsSmall, IsUnboundedFault}
 use Rattle.whole_simplex.specs.Outcome.{Outcome, TooLarge, Greatest, LargeMultiplier, Direction, Limit, TooWide, SaysOutcome, outcome_of}
 use Rattle.whole_simplex.specs.declared.Optimum.{Optimum}
 use Rattle.whole_simplex.specs.declared.SolveFault.{SolveFault}
@@ -27,9 +22,9 @@ use Rattle.cut_search.specs.declared.limits.Limits.{Limits}
 use Rattle.cut_search.specs.Answers.{SaysSearch}
 use Rattle.cut_search.specs.Leaves.{leaf_multipliers, sides_of}
 use Rattle.cut_search.specs.Nodes.{node_rows}
-use Rattle.cut_search.specs.Search.{Ending, NoTree, Refused, cut_or_none, first_open, judged, judged_by, leaf_or, meets_bound, pivot_limit}
+use Rattle.cut_search.specs.Search.{Ending, Refused, cut_or_none, first_open, judged, judged_by, leaf_or, meets_bound, pivot_limit}
 use Rattle.cut_search.specs.Working.Limits.{IsFree}
-use Rattle.cut_search.specs.Working.Searching.{HaveNoRay, IsDecided, IsGoodNode, IsNodeOptimum, IsNodeRay, SaysNode, is_yes, told_of}
+use Rattle.cut_search.specs.Working.Searching.{HaveNoRay, IsDecided, IsGoodNode, IsNodeOptimum, IsNodeRay, SaysNode, told_of}
 use Rattle.std.specs.Int.{w128}
 use mir.Val.{SFits}
 use Rattle.whole_rows.proofs.Combinations.{fits_from_range}
@@ -112,10 +107,13 @@ decided_says d bound limits optimum meets (Ok (ways.Leaf given listed)) is e dec
     optimum_is d bound limits optimum is cut
     ∙ ap (λ (t : Bool). cond t (Ok (Leaf (unsigned_abs optimum.denominator) (leaf_multipliers d limits (map unsigned_abs optimum.multipliers)))) (cut_or_none (first_open limits) cut)) (sym e ∙ decided.0)
     ∙ rw (decided.1, decided.2) refl
-decided_says d bound limits optimum meets (Ok (ways.Cut place)) is e decided = (decided.1, λ cut.
-    optimum_is d bound limits optimum is cut
-    ∙ ap (λ (t : Bool). cond t (Ok (Leaf (unsigned_abs optimum.denominator) (leaf_multipliers d limits (map unsigned_abs optimum.multipliers)))) (cut_or_none (first_open limits) cut)) (sym e ∙ decided.0)
-    ∙ ap (λ (o : Option ℕ). cut_or_none o cut) decided.1)
+decided_says d bound limits optimum meets (Ok (ways.Cut place)) is e decided = (
+  decided.1,
+  λ cut.
+      optimum_is d bound limits optimum is cut
+      ∙ ap (λ (t : Bool). cond t (Ok (Leaf (unsigned_abs optimum.denominator) (leaf_multipliers d limits (map unsigned_abs optimum.multipliers)))) (cut_or_none (first_open limits) cut)) (sym e ∙ decided.0)
+      ∙ ap (λ (o : Option ℕ). cut_or_none o cut) decided.1,
+)
 decided_says d bound limits optimum meets (Err faults.NoTree) is e decided = λ cuts cut.
     subst (λ (r : Result Tree Ending). SaysSearch cuts r (Err faults.NoTree))
     (sym (optimum_is d bound limits optimum is cut

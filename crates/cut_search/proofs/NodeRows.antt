@@ -1,8 +1,8 @@
 -- Rows of nodes, grown row by row.
-use Rattle.std.proofs.Common.{◌≡◌, ℕ, zero, suc, ◌+◌, ◌-◌, ◌<◌, ◌≤◌, ◌==◌, Bool, true, false, cond, List, [], ◌∷◌, ◌++◌, map, length, get_or, take, drop, replicate, ℤ, pos, None, All, refl, sym, ap, subst, ◌∙◌, append_assoc, arith}
+use Rattle.std.proofs.Common.{◌≡◌, ℕ, zero, suc, ◌+◌, ◌-◌, ◌<◌, ◌≤◌, ◌==◌, Bool, true, false, cond, List, [], ◌∷◌, ◌++◌, map, length, get_or, take, drop, replicate, ℤ, pos, All, refl, sym, ap, subst, ◌∙◌, append_assoc, arith}
 use Rattle.std.proofs.lemmas.List.{take-append-drop, map-append, append-nil, take_more, length-append, length-replicate, replicate-append-replicate}
 use Rattle.std.proofs.lemmas.List.Elements.{All-append, All-head, All-replicate, All-tail}
-use Rattle.whole_rows.specs.Row.{IsInRange, AreInRange, is_zero}
+use Rattle.whole_rows.specs.Row.{IsInRange, AreInRange}
 use Rattle.whole_rows.specs.Rows.{RowsData, AreRows}
 use Rattle.whole_rows.specs.Terms.{row_of_terms, AreTerms}
 use Rattle.whole_rows.specs.declared.Term.{Term}

@@ -1,5 +1,5 @@
 -- What holds of each member of a list holds of each member of its parts.
-use Rattle.std.proofs.Common.{◌≡◌, ℕ, ◌+◌, ◌<◌, ◌≤◌, inl, inr, ◌⊎◌, List, ◌++◌, length, get_or, take, drop, All, sym, subst, arith}
+use Rattle.std.proofs.Common.{ℕ, ◌+◌, inl, inr, List, ◌++◌, length, get_or, take, drop, All, sym, subst, arith}
 use Rattle.std.proofs.lemmas.Bool.{cases_lt}
 use Rattle.std.proofs.lemmas.List.{get_or-append-add, get_or_past, length-append, take-append-drop}
 use Rattle.std.proofs.lemmas.List.Elements.{All-get_or}

@@ -1,8 +1,8 @@
 -- A ray of the rows of any node has nothing at the further columns, since these are limited: the rest is a ray of the task's rows.
-use Rattle.std.proofs.Common.{inl, inr, ◌⊎◌, ◌≡◌, ◌≢◌, ℕ, zero, suc, ◌+◌, ◌-◌, ◌<◌, ◌≤◌, ◌==◌, Bool, true, false, cond, List, [], ◌∷◌, ◌++◌, map, length, get_or, take, drop, replicate, ℤ, pos, ◌+ℤ◌, ◌*ℤ◌, ◌≤ℤ◌, ◌<ℤ◌, None, All, refl, sym, ap, subst, ◌∙◌, add-one, arith, drop-cons}
+use Rattle.std.proofs.Common.{inl, inr, ◌≡◌, ◌≢◌, ℕ, zero, suc, ◌+◌, ◌<◌, ◌≤◌, ◌==◌, Bool, true, false, cond, List, [], ◌∷◌, ◌++◌, map, length, get_or, take, drop, replicate, ℤ, pos, ◌*ℤ◌, ◌≤ℤ◌, All, refl, sym, ap, subst, ◌∙◌, arith, drop-cons}
 use Rattle.std.proofs.lemmas.Bool.{cases_lt, eq-eqb, ne_eqb}
 use Rattle.std.proofs.lemmas.Int.{ints}
-use Rattle.std.proofs.lemmas.List.{append-nil, get_or-append-add, get_or-map, get_or_past, length-append, length-map, length-replicate, length-take-le, map-append}
+use Rattle.std.proofs.lemmas.List.{append-nil, get_or-append-add, get_or-map, get_or_past, length-append, length-map, length-replicate, length-take-le}
 use Rattle.std.proofs.lemmas.List.Elements.{All-get_or, All-head, All-tail}
 use Rattle.std.proofs.lemmas.List.FromFn.{get_or-map-range_with_len, length-map-range_with_len}
 use Rattle.std.proofs.Math.ListN.{get_or-append}
@@ -15,7 +15,7 @@ use Rattle.cut_search.specs.declared.limits.Limits.{Limits}
 use Rattle.cut_search.specs.Nodes.{LimitRow, further_cost, further_count, limit_rows, lower_rows, node_rows, upper_rows, widened, with_limit_rows}
 use Rattle.cut_search.specs.Working.Limits.{IsFree}
 use Rattle.cut_search.proofs.Parts.{right_all}
-use Rattle.cut_search.proofs.Products.{product_sum-append, product_sum-take}
+use Rattle.cut_search.proofs.Products.{product_sum-append}
 
 -- ---- Without a cut
 

@@ -1,6 +1,5 @@
 -- The root of the search: no cut was made.
-use Rattle.std.proofs.Common.{◌≡◌, ℕ, ◌+◌, ◌<◌, ◌≤◌, List, [], ◌∷◌, map, length, All, Result, Ok, Err, refl, sym, ap, subst, arith}
-use Rattle.std.specs.Prelude.{IfErr, IfOk}
+use Rattle.std.proofs.Common.{◌≡◌, ℕ, ◌<◌, List, [], ◌∷◌, map, length, All, refl, subst, arith}
 use Rattle.std.proofs.lemmas.List.Elements.{All-cons, All-head, All-nil, All-tail}
 use Rattle.whole_rows.specs.Rows.{RowsData}
 use Rattle.whole_simplex.specs.Answers.{IsUnbounded}
@@ -11,7 +10,6 @@ use Rattle.split_trees.specs.Tree.{Tree}
 use Rattle.split_trees.specs.declared.side.Side.{Side}
 use Rattle.cut_search.specs.declared.fault.SplitFault.{SplitFault}
 use Rattle.cut_search.specs.declared.fault.SplitFault.TheVariants as faults
-use Rattle.cut_search.specs.declared.limits.Limits.{Limits}
 use Rattle.cut_search.specs.Answers.{IsRayOf}
 use Rattle.cut_search.specs.Leaves.{sides_of}
 use Rattle.cut_search.specs.Search.{free, pivot_limit}

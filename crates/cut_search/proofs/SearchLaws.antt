@@ -1,13 +1,13 @@
 -- What the search from a node comes to, by what it comes to on the sides of its cut.
-use Rattle.std.proofs.Common.{◌≡◌, ◌⊎◌, inl, inr, ℕ, zero, suc, ◌+◌, ◌-◌, ◌*◌, ◌^◌, ◌<◌, ◌≤◌, ◌==◌, Bool, true, false, cond, List, [], ◌∷◌, ◌++◌, map, length, get_or, take, set, Option, Some, None, All, Result, Ok, Err, refl, sym, ap, subst, ◌∙◌, arith}
+use Rattle.std.proofs.Common.{◌≡◌, ◌⊎◌, inl, inr, ℕ, zero, suc, ◌+◌, ◌-◌, ◌<◌, ◌≤◌, List, [], ◌∷◌, ◌++◌, map, length, take, Some, None, All, Result, Ok, Err, refl, sym, ap, subst, ◌∙◌, arith}
 use Rattle.std.specs.Prelude.{IfErr, IfOk, unsigned_abs}
 use Rattle.std.proofs.lemmas.Bool.{eq-eqb, ne_eqb}
-use Rattle.std.proofs.lemmas.List.Elements.{All-append, All-cons, All-get_or, All-nil, All-set}
+use Rattle.std.proofs.lemmas.List.Elements.{All-append, All-cons, All-get_or, All-set}
 use Rattle.listed.specs.Steps.{◌>>=◌}
 use Rattle.whole_rows.specs.Rows.{RowsData}
 use Rattle.whole_simplex.specs.declared.SolveFault.TheVariants as solving
 use Rattle.split_trees.specs.Good.{IsColumn, IsGoodLeaf}
-use Rattle.split_trees.specs.Tree.{Tree, Leaf, Cut, LeafAt, columns_cut, leaves_on}
+use Rattle.split_trees.specs.Tree.{Tree, Leaf, Cut, columns_cut, leaves_on}
 use Rattle.split_trees.specs.declared.side.Side.{Side}
 use Rattle.split_trees.specs.declared.side.Side.TheVariants.{AtMost, Above}
 use Rattle.cut_search.specs.declared.fault.SplitFault.{SplitFault}
@@ -18,8 +18,7 @@ use Rattle.cut_search.specs.declared.searching.Part.{Part}
 use Rattle.cut_search.specs.Answers.{SaysSearch}
 use Rattle.cut_search.specs.Leaves.{sides_of}
 use Rattle.cut_search.specs.Search.{Ending, Cuts, cut_at, cut_count, high_side, judged, limits_at, low_side, no_limits, searched}
-use Rattle.cut_search.specs.Working.Limits.{AreInOrder, HasSmallLimits, IsFirstOpen, IsFree}
-use Rattle.cut_search.specs.Working.Nodes.{LieWithin}
+use Rattle.cut_search.specs.Working.Limits.{HasSmallLimits, IsFirstOpen, IsFree}
 use Rattle.cut_search.specs.Working.Searching.{AreLimits, HaveNoRay, IsGoodPart, IsLowPart, IsNoRay, IsNodeRay, SaysCut, SaysNode, SaysPart}
 use Rattle.cut_search.proofs.Order.{high_side-order, high_side-sides, high_side-within, low-le-sides, low_side-order, low_side-sides, low_side-within}
 use Rattle.cut_search.proofs.Rays.{ray_of_rows}
@@ -42,15 +41,6 @@ pub leaf_part : (d : RowsData) (bound cuts left : ℕ) (limits : List Limits) (d
     → part ≡ record { tree = Leaf denominator multipliers; left = left } → (depth : ℕ) → SaysPart cuts left (searched d bound depth left limits) (Ok part)
 leaf_part d bound cuts left limits denominator multipliers part says is depth =
     subst (λ (p : Part). SaysPart cuts left (searched d bound depth left limits) (Ok p)) (sym is) (leaf_says d bound cuts left limits denominator multipliers says depth)
-
-pub leaf_good : (d : RowsData) (bound left : ℕ) (sides : List Side) (denominator : ℕ) (multipliers : List ℕ) (part : Part) → IsGoodLeaf d bound (record { sides = sides; denominator = denominator; multipliers = multipliers })
-    → part ≡ record { tree = Leaf denominator multipliers; left = left } → IsGoodPart d bound sides part.tree
-leaf_good d bound left sides denominator multipliers part good is =
-    subst (λ (p : Part). IsGoodPart d bound sides p.tree) (sym is)
-    (record {
-      columns = All-nil (IsColumn d);
-      leaves = All-cons (IsGoodLeaf d bound) (record { sides = sides; denominator = denominator; multipliers = multipliers }) [] good (All-nil (IsGoodLeaf d bound));
-    })
 
 -- where no cut is left
 no_cut : (search : ℕ → List Limits → Result Tree Ending) (left : ℕ) (limits : List Limits) (place : ℕ) → left ≡ 0 → cut_at search left limits place ≡ Err Cuts
@@ -122,10 +112,11 @@ joined_says d bound cuts left limits place low high part is says same = λ depth
     let count = is.count in
     let high_is = says depth (omega arith) in
     let uses = high_is.1 in
-    subst (λ (p : Part). SaysPart cuts left (cut_at (searched d bound depth) left limits place) (Ok p)) (sym same)
-    (after_low d bound left limits place low is depth h
-    ∙ ap (λ (r : Result Tree Ending). r >>= (λ high. Ok (Cut (limits_at limits place).column (limits_at limits place).low low.tree high))) high_is.0,
-    omega arith)
+    subst (λ (p : Part). SaysPart cuts left (cut_at (searched d bound depth) left limits place) (Ok p)) (sym same) (
+      after_low d bound left limits place low is depth h
+          ∙ ap (λ (r : Result Tree Ending). r >>= (λ high. Ok (Cut (limits_at limits place).column (limits_at limits place).low low.tree high))) high_is.0,
+      omega arith,
+    )
 
 -- and where memory was wanted for the cut
 pub joined_answer : (d : RowsData) (bound cuts left : ℕ) (limits : List Limits) (place : ℕ) (low high : Part) (answer : Result Part SplitFault) → IsLowPart d bound left limits place low
@@ -191,21 +182,6 @@ no_ray_of d limits (faults.Solve solving.Memory) bounded is = tt
 no_ray_of d limits (faults.Cuts count) bounded is = tt
 no_ray_of d limits faults.NoTree bounded is = tt
 no_ray_of d limits faults.Memory bounded is = tt
-
-node_ray : (d : RowsData) (limits : List Limits) (fault : SplitFault) → IsNoRay fault → IsNodeRay d limits fault
-node_ray d limits (faults.Solve (solving.Unbounded ray)) none = absurd none
-node_ray d limits (faults.Solve (solving.Entries rows columns)) none = tt
-node_ray d limits (faults.Solve (solving.Pivots count)) none = tt
-node_ray d limits (faults.Solve (solving.Wide pivots a b)) none = tt
-node_ray d limits (faults.Solve (solving.Multiplier value)) none = tt
-node_ray d limits (faults.Solve solving.Memory) none = tt
-node_ray d limits (faults.Cuts count) none = tt
-node_ray d limits faults.NoTree none = tt
-node_ray d limits faults.Memory none = tt
-
-pub node_rays : (d : RowsData) (limits : List Limits) (answer : Result Part SplitFault) → IfErr answer IsNoRay → IfErr answer (IsNodeRay d limits)
-node_rays d limits (Ok part) none = tt
-node_rays d limits (Err fault) none = node_ray d limits fault none
 
 pub bounded_or : (d : RowsData) (limits : List Limits) → (All IsFree limits) ⊎ HaveNoRay d → (All IsFree limits → HaveNoRay d) → HaveNoRay d
 bounded_or d limits (inl free) root = root free

@@ -1,9 +1,8 @@
 -- The answers of the search that say what it comes to.
-use Rattle.std.specs.Prelude.{◌≡◌, ℕ, List, ℤ, Result, Ok, Err}
+use Rattle.std.specs.Prelude.{◌≡◌, ℕ, Result, Ok, Err}
 use Rattle.whole_rows.specs.Rows.{RowsData}
 use Rattle.whole_simplex.specs.Answers.{IsUnbounded}
 use Rattle.whole_simplex.specs.Outcome.{Direction, SaysOutcome, outcome_of}
-use Rattle.whole_simplex.specs.declared.SolveFault.{SolveFault}
 use Rattle.whole_simplex.specs.declared.SolveFault.TheVariants as solving
 use Rattle.split_trees.specs.Tree.{Tree}
 use Rattle.cut_search.specs.declared.fault.SplitFault.{SplitFault}

@@ -1,5 +1,5 @@
 -- The leaf that a node would be: the sides of the cuts above it, and its multipliers by those of the node's rows.
-use Rattle.std.specs.Prelude.{◌≡◌, ℕ, ◌+◌, ◌-◌, ◌==◌, cond, List, [], ◌∷◌, ◌++◌, length, map, take, drop, get_or, replicate, ℤ, unsigned_abs, Option, Some, None, refl}
+use Rattle.std.specs.Prelude.{◌≡◌, ℕ, ◌+◌, ◌-◌, ◌==◌, cond, List, [], ◌∷◌, ◌++◌, length, map, take, drop, get_or, replicate, Option, Some, None, refl}
 use Rattle.std.specs.List.{range_with_len}
 use Rattle.whole_rows.specs.Rows.{RowsData}
 use Rattle.split_trees.specs.declared.side.Side.{Side}

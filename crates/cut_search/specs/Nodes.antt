@@ -64,15 +64,14 @@ node_rows d limits = with_limit_rows (widened d (further_count limits)) (limit_r
 limits_case : node_rows sample (record { column = 0; low = 1; high = None } ∷ record { column = 1; low = 2; high = Some 2 } ∷ []) ≡ record {
   costs = pos 3 ∷ pos 2 ∷ pos 1048576 ∷ pos 1048576 ∷ [];
   rows =
-    (pos 1 ∷ pos 1 ∷ pos 0 ∷ pos 0 ∷ [])
-    ∷ (pos 1 ∷ negsuc 0 ∷ pos 0 ∷ pos 0 ∷ [])
-    ∷ (pos 0 ∷ pos 0 ∷ pos 1 ∷ pos 0 ∷ [])
-    ∷ (negsuc 0 ∷ pos 0 ∷ pos 1 ∷ pos 0 ∷ [])
-    ∷ (pos 0 ∷ pos 1 ∷ pos 0 ∷ pos 0 ∷ [])
-    ∷ (pos 0 ∷ pos 0 ∷ pos 0 ∷ pos 1 ∷ [])
-    ∷ (pos 0 ∷ negsuc 0 ∷ pos 0 ∷ pos 1 ∷ [])
-    ∷ [];
+      (pos 1 ∷ pos 1 ∷ pos 0 ∷ pos 0 ∷ [])
+      ∷ (pos 1 ∷ negsuc 0 ∷ pos 0 ∷ pos 0 ∷ [])
+      ∷ (pos 0 ∷ pos 0 ∷ pos 1 ∷ pos 0 ∷ [])
+      ∷ (negsuc 0 ∷ pos 0 ∷ pos 1 ∷ pos 0 ∷ [])
+      ∷ (pos 0 ∷ pos 1 ∷ pos 0 ∷ pos 0 ∷ [])
+      ∷ (pos 0 ∷ pos 0 ∷ pos 0 ∷ pos 1 ∷ [])
+      ∷ (pos 0 ∷ negsuc 0 ∷ pos 0 ∷ pos 1 ∷ [])
+      ∷ [];
   rights = pos 4 ∷ pos 2 ∷ pos 1 ∷ pos 0 ∷ pos 2 ∷ pos 2 ∷ pos 0 ∷ [];
 }
 limits_case = refl
-

@@ -1,6 +1,6 @@
 -- The search for a tree of cuts whose leaves show a bound. It goes from the root down, low sides first; each node is judged
 -- by the greatest value of its rows.
-use Rattle.std.specs.Prelude.{ℕ, zero, suc, ◌+◌, ◌-◌, ◌*◌, ◌==◌, Bool, cond, List, [], ◌∷◌, ◌≡◌, refl, map, ℤ, pos, int_lt, unsigned_abs, Option, Some, None, is_none, Result, Ok, Err, position, get_or, set}
+use Rattle.std.specs.Prelude.{ℕ, zero, suc, ◌+◌, ◌-◌, ◌*◌, ◌==◌, Bool, cond, List, [], ◌∷◌, ◌≡◌, refl, map, pos, int_lt, unsigned_abs, Option, Some, None, is_none, Result, Ok, Err, position, get_or, set}
 use Rattle.listed.specs.Steps.{◌>>=◌}
 use Rattle.whole_rows.specs.Row.{gcd_within}
 use Rattle.whole_rows.specs.Rows.{RowsData, right_sum}

@@ -29,7 +29,9 @@ pub(crate) enum Judged {
         multipliers: Numbers,
     },
     /// The column at that place of the limits is cut.
-    Cut { place: usize },
+    Cut {
+        place: usize,
+    },
 }
 
 /// What the node with these limits is.

@@ -44,10 +44,12 @@ pub(crate) fn search(
     ensures ray { IfErr result (IsNodeRay base.now limits.old) }
 {
     match judge(alloc, base, bound, limits) {
-        Ok(Judged::Leaf {
-            denominator,
-            multipliers,
-        }) => Ok(leaf(denominator, multipliers, left)),
+        Ok(
+            Judged::Leaf {
+                denominator,
+                multipliers,
+            },
+        ) => Ok(leaf(denominator, multipliers, left)),
         Ok(Judged::Cut { place }) => search_cut(alloc, base, bound, cuts, limits, left, place),
         Err(fault) => Err(fault),
     }

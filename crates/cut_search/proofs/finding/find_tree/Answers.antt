@@ -1,7 +1,6 @@
-use Rattle.std.proofs.Common.{◌≡◌, inl, List, All, length, ◌∙◌, ◌+◌, ◌≤◌, map, sym, ap, subst, arith}
+use Rattle.std.proofs.Common.{inl, List, All, length, ◌∙◌, sym, ap, subst, arith}
 use Rattle.cut_search.specs.declared.limits.Limits.{Limits}
 use Rattle.cut_search.specs.Leaves.{sides_of}
-use Rattle.cut_search.specs.Search.{free}
 use Rattle.cut_search.specs.Working.Limits.{IsFree}
 use Rattle.cut_search.specs.Working.Searching.{AreLimits, IsGoodPart, IsNodeRay}
 use Rattle.cut_search.proofs.Roots.{free_all, root_good, root_limits, root_ray, root_sides}

@@ -1,4 +1,4 @@
-use Rattle.std.proofs.Common.{◌≡◌, Err, sym, subst}
+use Rattle.std.proofs.Common.{Err, sym, subst}
 use Rattle.cut_search.specs.declared.fault.SplitFault.{SplitFault}
 use Rattle.cut_search.specs.Working.Searching.{IsNodeRay, SaysNode}
 use Rattle.cut_search.proofs.NodeAnswers.{refusal_ray, refusal_says}

@@ -1,11 +1,10 @@
-use Rattle.std.proofs.Common.{◌≡◌, ℕ, List, Bool, map, pos, true, ◌∙◌, ap, sym, subst, arith}
+use Rattle.std.proofs.Common.{ℕ, List, map, ◌∙◌, sym, subst}
 use Rattle.std.specs.Prelude.{unsigned_abs}
-use Rattle.std.proofs.lemmas.Int.{ints, to_z-of_z}
+use Rattle.std.proofs.lemmas.Int.{to_z-of_z}
 use Rattle.std.specs.Int.{w128}
 use mir.Val.{SFits}
 use Rattle.cut_search.specs.Leaves.{leaf_multipliers, sides_of}
-use Rattle.cut_search.specs.Search.{meets_bound}
-use Rattle.cut_search.specs.Working.Searching.{AreLeafMultipliers, IsDecided}
+use Rattle.cut_search.specs.Working.Searching.{AreLeafMultipliers}
 use Rattle.cut_search.proofs.LeafNumbers.{leaf_of_node}
 use Rattle.cut_search.proofs.NodeAnswers.{bounded_by, denominator_fits, good_by, says_by}
 use Rattle.cut_search.proofs.judging.judged_leaf.Goals as goal

@@ -1,6 +1,5 @@
-use Rattle.std.proofs.Common.{◌≡◌, List, All, ◌∙◌, ap, sym, subst}
+use Rattle.std.proofs.Common.{List, All, ◌∙◌, ap, sym, subst}
 use Rattle.whole_rows.specs.Duals.{first_failing_of}
-use Rattle.whole_rows.specs.declared.DualVerdict.{DualVerdict}
 use Rattle.split_trees.specs.Sides.{split_rows}
 use Rattle.split_trees.specs.Working.Judging.{IsSmallSide}
 use Rattle.split_trees.specs.declared.side.Side.{Side}

@@ -1,4 +1,4 @@
-use Rattle.std.proofs.Common.{◌≡◌, ℕ, List, length, ◌∙◌, ap, arith}
+use Rattle.std.proofs.Common.{ℕ, List, length, ◌∙◌, ap, arith}
 use Rattle.cut_search.proofs.LeafNumbers.{node_counted}
 use Rattle.cut_search.proofs.judging.multipliers_of.Goals as goal
 

@@ -1,4 +1,4 @@
-use Rattle.std.proofs.Common.{◌≡◌, ℕ, IfOk, IfErr, sym, subst}
+use Rattle.std.proofs.Common.{ℕ, IfOk, IfErr, sym, subst}
 use Rattle.whole_rows.specs.Rows.{RowsData}
 use Rattle.whole_simplex.specs.Answers.{IsOptimum, IsUnboundedFault}
 use Rattle.whole_simplex.specs.Outcome.{SaysOutcome, outcome_of}

@@ -1,4 +1,4 @@
-use Rattle.std.proofs.Common.{◌≡◌, ℕ, ◌++◌, ◌+◌, ◌∷◌, [], List, get_or, take, drop, sym, ◌∙◌, ap, append_assoc, arith}
+use Rattle.std.proofs.Common.{ℕ, ◌++◌, ◌+◌, ◌∷◌, [], List, get_or, take, drop, sym, ◌∙◌, ap, append_assoc, arith}
 use Rattle.cut_search.specs.Leaves.{side_multipliers}
 use Rattle.cut_search.specs.Search.{no_limits}
 use Rattle.cut_search.proofs.LeafParts.{limit_row_count_more, limit_row_count-take, side_multipliers_more}
@@ -20,9 +20,9 @@ loop-place-preserved c =
     let before = side_multipliers (take i limits) ms in
     record {
       found = c.in_ok-at.ensures.found
-        ∙ ap (λ (found : List ℕ). found ++ side_multipliers (get_or c.args.limits.now c.loop-place.place no_limits ∷ []) (drop c.loop-place.at c.args.multipliers.now)) c.loop-place.invariant.found
-        ∙ append_assoc c.args.found.now before (side_multipliers (get_or limits i no_limits ∷ []) (drop c.loop-place.at ms))
-        ∙ ap (λ (n : ℕ). c.args.found.now ++ (before ++ side_multipliers (get_or limits i no_limits ∷ []) (drop n ms))) c.loop-place.invariant.at
-        ∙ ap (λ (found : List ℕ). c.args.found.now ++ found) (sym (side_multipliers_more limits i ms c.loop-place-test.true));
+          ∙ ap (λ (found : List ℕ). found ++ side_multipliers (get_or c.args.limits.now c.loop-place.place no_limits ∷ []) (drop c.loop-place.at c.args.multipliers.now)) c.loop-place.invariant.found
+          ∙ append_assoc c.args.found.now before (side_multipliers (get_or limits i no_limits ∷ []) (drop c.loop-place.at ms))
+          ∙ ap (λ (n : ℕ). c.args.found.now ++ (before ++ side_multipliers (get_or limits i no_limits ∷ []) (drop n ms))) c.loop-place.invariant.at
+          ∙ ap (λ (found : List ℕ). c.args.found.now ++ found) (sym (side_multipliers_more limits i ms c.loop-place-test.true));
       at = let next = c.in_ok-at.ensures.next in let at = c.loop-place.invariant.at in omega arith;
     }

@@ -1,4 +1,4 @@
-use Rattle.std.proofs.Common.{◌≡◌, ◌++◌, ◌∷◌, [], List, get_or, sym, ◌∙◌, ap}
+use Rattle.std.proofs.Common.{◌++◌, ◌∷◌, [], List, get_or, sym, ◌∙◌, ap}
 use Rattle.split_trees.specs.declared.side.Side.{Side}
 use Rattle.cut_search.specs.Leaves.{sides_of}
 use Rattle.cut_search.specs.Search.{no_limits}

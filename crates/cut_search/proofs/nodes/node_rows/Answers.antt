@@ -1,4 +1,4 @@
-use Rattle.std.proofs.Common.{◌≡◌, ℕ, ◌∙◌, ap}
+use Rattle.std.proofs.Common.{ℕ, ◌∙◌, ap}
 use Rattle.whole_rows.specs.Rows.{RowsData}
 use Rattle.cut_search.specs.Nodes.{limit_rows, with_limit_rows}
 use Rattle.cut_search.proofs.NodeRows.{node_rows-are}

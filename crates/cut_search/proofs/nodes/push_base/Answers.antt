@@ -1,13 +1,12 @@
-use Rattle.std.proofs.Common.{◌≡◌, ◌∷◌, [], ◌++◌, List, ℤ, map, length, get_or, take, pos, sym, ◌∙◌, ap, arith}
+use Rattle.std.proofs.Common.{◌≡◌, ◌∷◌, [], ◌++◌, List, ℤ, map, length, take, pos, sym, ◌∙◌, ap, arith}
 use Rattle.std.proofs.lemmas.Int.{to_z-of_z}
 use Rattle.std.proofs.lemmas.List.{map-append, take_more}
 use Rattle.std.proofs.lemmas.List.Elements.{All-get_or}
 use Rattle.std.specs.Int.{w128}
 use mir.Val.{SFits}
 use Rattle.whole_rows.specs.Row.{AreInRange}
-use Rattle.whole_rows.specs.Rows.{RowsData, row_at, right_at}
+use Rattle.whole_rows.specs.Rows.{RowsData, row_at}
 use Rattle.whole_rows.specs.Terms.{row_of_terms}
-use Rattle.whole_rows.specs.declared.Term.{Term}
 use Rattle.whole_rows.proofs.Combinations.{fits_from_range}
 use Rattle.row_squeeze.proofs.Sizes.{row_width}
 use Rattle.cut_search.specs.Working.Nodes.{padded}
@@ -38,12 +37,12 @@ loop-row-preserved c =
     record {
       costs = ap (λ (r : RowsData). r.costs) pushed ∙ c.loop-row.invariant.costs;
       rows = ap (λ (r : RowsData). r.rows) pushed
-        ∙ ap (λ (rs : List (List ℤ)). rs ++ row_of_terms (length c.loop-row.rows.costs) c.in_ok-terms.terms ∷ []) c.loop-row.invariant.rows
-        ∙ ap (λ (r : List ℤ). map (padded (length c.args.rows.now.costs)) (take i d.rows) ++ r ∷ []) row
-        ∙ sym (map-append (padded (length c.args.rows.now.costs)) (take i d.rows) (row_at d i ∷ []))
-        ∙ ap (map (padded (length c.args.rows.now.costs))) (sym (take_more d.rows i [] (omega arith)));
+          ∙ ap (λ (rs : List (List ℤ)). rs ++ row_of_terms (length c.loop-row.rows.costs) c.in_ok-terms.terms ∷ []) c.loop-row.invariant.rows
+          ∙ ap (λ (r : List ℤ). map (padded (length c.args.rows.now.costs)) (take i d.rows) ++ r ∷ []) row
+          ∙ sym (map-append (padded (length c.args.rows.now.costs)) (take i d.rows) (row_at d i ∷ []))
+          ∙ ap (map (padded (length c.args.rows.now.costs))) (sym (take_more d.rows i [] (omega arith)));
       rights = ap (λ (r : RowsData). r.rights) pushed
-        ∙ ap (λ (rs : List ℤ). rs ++ c.right.result ∷ []) c.loop-row.invariant.rights
-        ∙ ap (λ (x : ℤ). take i d.rights ++ x ∷ []) c.right.ensures.value
-        ∙ sym (take_more d.rights i (pos 0) (omega (arith, rows.shape.rights_fit)));
+          ∙ ap (λ (rs : List ℤ). rs ++ c.right.result ∷ []) c.loop-row.invariant.rights
+          ∙ ap (λ (x : ℤ). take i d.rights ++ x ∷ []) c.right.ensures.value
+          ∙ sym (take_more d.rights i (pos 0) (omega (arith, rows.shape.rights_fit)));
     }

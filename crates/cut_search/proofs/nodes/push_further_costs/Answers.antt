@@ -1,4 +1,4 @@
-use Rattle.std.proofs.Common.{◌≡◌, ◌++◌, ◌∷◌, [], List, ℤ, get_or, replicate, take, sym, ◌∙◌, ap, append_assoc}
+use Rattle.std.proofs.Common.{◌++◌, ◌∷◌, [], List, ℤ, get_or, replicate, take, sym, ◌∙◌, ap, append_assoc}
 use Rattle.cut_search.specs.Nodes.{further_cost, further_count}
 use Rattle.cut_search.proofs.NodeRows.{further_costs}
 use Rattle.cut_search.specs.Search.{no_limits}

@@ -1,6 +1,6 @@
-use Rattle.std.proofs.Common.{◌≡◌, ◌++◌, ◌∷◌, [], ◌+◌, ◌≤◌, List, length, get_or, take, drop, sym, ◌∙◌, ap, arith}
+use Rattle.std.proofs.Common.{◌++◌, ◌∷◌, [], ◌+◌, List, length, get_or, take, sym, ◌∙◌, ap, arith}
 use Rattle.whole_rows.specs.Rows.{RowsData}
-use Rattle.cut_search.specs.Nodes.{LimitRow, further_count, limit_rows, with_limit_rows}
+use Rattle.cut_search.specs.Nodes.{LimitRow, limit_rows, with_limit_rows}
 use Rattle.cut_search.specs.Search.{no_limits}
 use Rattle.cut_search.proofs.NodeRows.{further_more, limit_rows_more, with_limit_rows-append, further_count-take}
 use Rattle.cut_search.proofs.nodes.push_limits.Goals as goal

@@ -1,4 +1,4 @@
-use Rattle.std.proofs.Common.{◌≡◌, ◌++◌, ◌∷◌, [], List, ℤ, get_or, take, sym, ◌∙◌, ap, pos, length, arith}
+use Rattle.std.proofs.Common.{◌++◌, ◌∷◌, [], List, ℤ, take, sym, ◌∙◌, ap, arith}
 use Rattle.std.proofs.lemmas.Int.{to_z-of_z}
 use Rattle.std.specs.Int.{w128}
 use mir.Val.{SFits}

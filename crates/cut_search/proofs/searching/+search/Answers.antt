@@ -1,19 +1,16 @@
-use Rattle.std.proofs.Common.{◌≡◌, ◌⊎◌, inl, inr, ℕ, ◌+◌, ◌-◌, ◌*◌, ◌<◌, ◌≤◌, List, [], ◌∷◌, ◌++◌, length, get_or, set, All, Some, None, Result, Ok, Err, IfErr, IfOk, OnOk, sym, ap, subst, ◌∙◌, arith}
+use Rattle.std.proofs.Common.{◌≡◌, inr, ℕ, ◌+◌, ◌-◌, ◌≤◌, List, [], ◌∷◌, length, get_or, set, Result, Ok, Err, IfOk, OnOk, sym, ap, subst, ◌∙◌, arith}
 use Rattle.std.proofs.lemmas.List.{length-append, set-get_or, set-set}
-use Rattle.split_trees.specs.Tree.{Tree}
-use Rattle.split_trees.specs.declared.side.Side.{Side}
 use Rattle.split_trees.specs.declared.side.Side.TheVariants.{AtMost, Above}
 use Rattle.cut_search.specs.declared.fault.SplitFault.{SplitFault}
-use Rattle.cut_search.specs.declared.fault.SplitFault.TheVariants as faults
 use Rattle.cut_search.specs.declared.judging.Judged.{Judged}
 use Rattle.cut_search.specs.declared.limits.Limits.{Limits}
 use Rattle.cut_search.specs.declared.searching.Part.{Part}
 use Rattle.cut_search.specs.Leaves.{sides_of}
 use Rattle.cut_search.specs.Search.{high_side, limits_at, low_side, no_limits, searched}
-use Rattle.cut_search.specs.Working.Limits.{IsFirstOpen, IsFree}
-use Rattle.cut_search.specs.Working.Searching.{AreLimits, HaveNoRay, IsGoodPart, IsLowPart, IsNodeRay, IsNoRay, SaysCut, SaysNode, SaysPart}
-use Rattle.cut_search.proofs.Order.{first_open-is, high_side-sides, low-le-sides, low_side-sides}
-use Rattle.cut_search.proofs.SearchLaws.{bounded_or, cut_says, high_fails, high_limits, joined_answer, joined_good, leaf_part, low_fails, low_limits, no_ray_of, node_rays, none_left, refused_says}
+use Rattle.cut_search.specs.Working.Limits.{IsFirstOpen}
+use Rattle.cut_search.specs.Working.Searching.{AreLimits, IsGoodPart, IsLowPart, SaysCut, SaysNode, SaysPart}
+use Rattle.cut_search.proofs.Order.{first_open-is, high_side-sides, low_side-sides}
+use Rattle.cut_search.proofs.SearchLaws.{bounded_or, cut_says, high_fails, high_limits, joined_answer, joined_good, leaf_part, low_fails, low_limits, no_ray_of, refused_says}
 use Rattle.cut_search.proofs.searching.+search.Goals as goal
 
 -- ---- A node
@@ -66,11 +63,25 @@ search_cut-search_high-requires t c =
       found = λ depth h. (says depth (omega arith)).0;
       count = omega arith;
       good = subst (λ (ls : List Limits). IsGoodPart c.args.base.now c.args.bound (sides_of ls) c.in-Ok.low.tree) low c.in-Ok.ensures.good;
-    } in
-    (omega arith, (c.requires.sizes, (subst (AreLimits c.args.base.now) (sym back) c.requires.limits,
-    (subst (λ (ls : List Limits). length (sides_of ls) + c.args.left ≤ 100) (sym back) c.requires.few, (c.requires.bounded,
-    (subst (λ (ls : List Limits). IsFirstOpen ls c.args.place) (sym back) c.requires.place,
-    subst (λ (ls : List Limits). IsLowPart c.args.base.now c.args.bound c.args.left ls c.args.place c.in-Ok.low) (sym back) part))))))
+    } in (
+      omega arith,
+      (
+        c.requires.sizes,
+        (
+          subst (AreLimits c.args.base.now) (sym back) c.requires.limits,
+          (
+            subst (λ (ls : List Limits). length (sides_of ls) + c.args.left ≤ 100) (sym back) c.requires.few,
+            (
+              c.requires.bounded,
+              (
+                subst (λ (ls : List Limits). IsFirstOpen ls c.args.place) (sym back) c.requires.place,
+                subst (λ (ls : List Limits). IsLowPart c.args.base.now c.args.bound c.args.left ls c.args.place c.in-Ok.low) (sym back) part,
+              ),
+            ),
+          ),
+        ),
+      ),
+    )
 
 pub search_cut-returns-in-Ok-clause-says : goal.search_cut-returns-in-Ok-clause-says
 search_cut-returns-in-Ok-clause-says t c =
