@@ -1,5 +1,5 @@
 -- Tokens that are names, texts, numbers and signs have a text: each one, with a space before it.
-use Rattle.std.proofs.Common.{◌≡◌, ℕ, ◌^◌, ◌<◌, List, [], ◌∷◌, ◌++◌, refl, ◌∙◌, decimal}
+use Rattle.std.proofs.Common.{◌≡◌, ℕ, List, [], ◌∷◌, ◌++◌, refl, ◌∙◌}
 use Rattle.std.specs.Prelude.{⊤}
 use Rattle.oil_grammar.specs.Grammar.{File, file_tokens}
 use Rattle.oil_grammar.specs.Tokens.{found, first_in, is_skipped, after_gap, BeginWith, AreTokensOf}

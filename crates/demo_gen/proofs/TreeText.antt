@@ -1,5 +1,5 @@
 -- Some text has the tree of a generated system.
-use Rattle.std.proofs.Common.{◌≡◌, ℕ, ◌+◌, ◌^◌, ◌<◌, ◌≤◌, Bool, true, false, List, [], ◌∷◌, ◌++◌, drop, map, Some, None, refl, sym, ap, ◌∙◌, subst, arith, decimal}
+use Rattle.std.proofs.Common.{◌≡◌, ℕ, ◌+◌, ◌^◌, ◌<◌, Bool, true, false, List, [], ◌∷◌, ◌++◌, drop, map, Some, None, refl, ap, subst, arith, decimal}
 use Rattle.std.specs.Prelude.{codes}
 use Rattle.std.specs.List.{AllByRecursion, list_all}
 use Rattle.std.proofs.lemmas.Bool.{and_parts}
@@ -8,11 +8,9 @@ use Rattle.oil_grammar.specs.Bytes.{is_name_byte}
 use Rattle.oil_grammar.specs.Names.{is_name}
 use Rattle.oil_grammar.specs.Layout.{quoted_layout}
 use Rattle.oil_grammar.specs.declared.tree.Value.{Value}
-use Rattle.oil_grammar.specs.Grammar.{Block, empty, plain, braced, WrittenObject, File, block_tokens, objects_tokens, file_tokens, objects_of, attributes_of, tree_of, IsNoWord, IsBlock, AreObjects, IsFile, IsTextOf, IsWellFormed, depth_limit, value_token}
-use Rattle.oil_grammar.specs.declared.tree.Object.{Object}
-use Rattle.oil_grammar.specs.declared.tree.Tree.{Tree}
+use Rattle.oil_grammar.specs.Grammar.{Block, empty, plain, braced, WrittenObject, File, block_tokens, objects_tokens, file_tokens, objects_of, attributes_of, tree_of, IsNoWord, IsBlock, AreObjects, IsFile, IsWellFormed, depth_limit, value_token}
 use Rattle.oil_grammar.specs.declared.tree.Value.TheVariants as value
-use Rattle.oil_grammar.proofs.Proper.{Every, is_text_byte, IsName}
+use Rattle.oil_grammar.proofs.Proper.{Every, IsName}
 use Rattle.oil_grammar.proofs.Spelled.{first_name, first_number, first_text, first_equals, first_semicolon, first_open, first_close}
 use Rattle.demo_gen.specs.declared.task.DemoTask.{DemoTask}
 use Rattle.demo_gen.specs.Demo as demo
