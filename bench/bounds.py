@@ -1,11 +1,11 @@
 #!/usr/bin/env python3
 """Times `bound` and `check` on whole systems, `bound` beside exact solvers, and how they grow.
 
-    bench/bounds.py [SYSWCET [BENCH_ROWS]]
+    bench/bounds.py [SYSWCET [LIST_ROWS]]
 
 For each task of the systems in examples/ the whole command `bound` is timed, from its files to its
 answer, and `check` of the certificate that `certify` wrote. `glpsol --exact` (glpk-utils) and QSopt_ex's
-`esolver` (qsopt-ex) solve the same rows, which `bench_rows` writes and which they get as LP: theirs is
+`esolver` (qsopt-ex) solve the same rows, which `list_rows` writes and which they get as LP: theirs is
 the time without building the rows. A peer that isn't installed is skipped.
 
 Then systems of alarms whose tasks come in any order, so that scheduler states multiply, and of long
@@ -81,7 +81,7 @@ def whole_systems(program, tool):
                 assert verdict == "yes " + answer, (verdict, answer)
                 ratios = ["-", "-"]
                 if tool:
-                    rows = json.loads(least([tool, "s.oil", "s.elf", "s.json", task, "k"], folder)[1])
+                    rows = json.loads(least([tool, "s.oil", "s.elf", "s.json", task, "k", "json"], folder)[1])
                     times = peers(rows, int(answer.split()[1]), scratch)
                     ratios = ["-" if other is None else f"{other / took:.1f}" for other in times]
             print(f"{name + ', ' + task:24} {took:9.1f} {judged:10.1f} {ratios[0]:>15} {ratios[1]:>16}   {answer.strip()}")
@@ -115,7 +115,7 @@ def growth(program):
 
 def main():
     program = os.path.abspath(sys.argv[1]) if len(sys.argv) > 1 else os.path.join(ROOT, "crates/syswcet/out/syswcet")
-    tool = os.path.abspath(sys.argv[2]) if len(sys.argv) > 2 else os.path.join(ROOT, "crates/bench_rows/out/bench_rows")
+    tool = os.path.abspath(sys.argv[2]) if len(sys.argv) > 2 else os.path.join(ROOT, "crates/list_rows/out/list_rows")
     if not os.path.exists(program):
         print(f"bounds: {program} is missing: skipped")
         return 0

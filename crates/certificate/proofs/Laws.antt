@@ -146,7 +146,7 @@ state_of-fits : (rules : StateRules) (d : Data) → IfOk (state_of rules d) (Fit
 state_of-fits rules d =
     IfOk-step (λ _. Unit {0}) _ (ok_or (state_parts d) states_kinds.State) _ (IfOk-ok_or _ _ _ (λ _ _. tt)) (λ parts _. state_of_parts-fits rules parts)
 
-states_of-lawful : (rules : StateRules) (ds : List Data) → IfOk (states_of rules ds) (AreLawful rules)
+pub states_of-lawful : (rules : StateRules) (ds : List Data) → IfOk (states_of rules ds) (AreLawful rules)
 states_of-lawful rules ds =
     IfOk-step (AllByRecursion (FitsRules rules)) _ (all_of (state_of rules) ds) _ (IfOk-all_of (state_of rules) (FitsRules rules) (state_of-fits rules) 0 ds)
     (λ states fit. IfOk-test (AreLawful rules) (differ same_state states) states _ (λ once. record { fit = fit; once = once }))
@@ -174,7 +174,7 @@ cert_numbers-range parts =
     at true numbers in_range = tt
     at false numbers in_range = in_range refl
 
-told_as_ok : {A K L : Type 0} (P : A → Type 0) (kind : L) (r : Result A K) → IfOk r P → IfOk (told_as kind r) P
+pub told_as_ok : {A K L : Type 0} (P : A → Type 0) (kind : L) (r : Result A K) → IfOk r P → IfOk (told_as kind r) P
 told_as_ok P kind (Ok x) holds = holds
 told_as_ok P kind (Err other) holds = tt
 

@@ -1,4 +1,4 @@
--- A certificate that is written is read again as the same certificate.
+-- A certificate, or a list of states, that is written is read again as the same.
 use Rattle.std.proofs.Common.{◌≡◌, ℕ, zero, suc, ◌+◌, ◌^◌, ◌<◌, ◌≤◌, Bool, true, false, List, [], ◌∷◌, ◌++◌, length, map, Option, Some, None, Result, Ok, refl, sym, ap, ◌∙◌, arith, inl, decimal}
 use Rattle.std.proofs.lemmas.Bool.{false≢true, le-leb, lt-ltb, ne_eqb, eq-eqb}
 use Rattle.std.proofs.lemmas.List.{length-map}
@@ -26,12 +26,13 @@ use Rattle.abstract_sched.specs.declared.states.TaskAt.TheVariants.{Suspended, A
 use Rattle.abstract_sched.specs.Fits.{IsId, IsBlockOf, FitsTask, FitsIsr, FitsRules, AreLawful}
 use Rattle.certificate.specs.declared.cert.Cert.{Cert}
 use Rattle.certificate.specs.declared.fault.CertKind.TheVariants as cert_kinds
+use Rattle.certificate.specs.declared.fault.StatesKind.TheVariants as states_kinds
 use Rattle.certificate.specs.Certificate.{multiplier_in, cert_numbers, cert_in}
 use Rattle.certificate.specs.Form.{CertParts, is_task, is_isr, is_state, cert_parts}
 use Rattle.certificate.specs.Lawful.{IsLawful}
 use Rattle.certificate.specs.Parts.{number_in, id_below, flag_in, depth_in, same_context, block_of, inner_of, isr_at}
-use Rattle.certificate.specs.States.{held_id, held_of, task_at, task_of, tasks_of, state_of_parts, state_of, states_of}
-use Rattle.certificate.specs.Writing.{number_data, flag_data, digits_data, task_data, isr_members, isr_data, state_data, cert_data, cert_text}
+use Rattle.certificate.specs.States.{held_id, held_of, task_at, task_of, tasks_of, state_of_parts, state_of, states_of, states_in}
+use Rattle.certificate.specs.Writing.{number_data, flag_data, digits_data, task_data, isr_members, isr_data, state_data, list_data, states_text, cert_data, cert_text}
 use Rattle.certificate.proofs.Decimals.{digits_below-decimal}
 use Rattle.certificate.proofs.Newlines.{read-newline}
 
@@ -54,7 +55,7 @@ with_places : {A : Type 0} (P : ℕ → A → Type 0) (count place : ℕ) (xs : 
 with_places P count place [] all fits = tt
 with_places P count place (x ∷ xs) all fits = ((all.0, omega arith), with_places P count (suc place) xs all.1 (omega arith))
 
-all_pass : {A : Type 0} (test : Data → Bool) (data_of : A → Data) → ((x : A) → test (data_of x) ≡ true) → (xs : List A) → list_all test (map data_of xs) ≡ true
+pub all_pass : {A : Type 0} (test : Data → Bool) (data_of : A → Data) → ((x : A) → test (data_of x) ≡ true) → (xs : List A) → list_all test (map data_of xs) ≡ true
 all_pass test data_of passes [] = refl
 all_pass test data_of passes (x ∷ xs) = rw (passes x, all_pass test data_of passes xs) refl
 
@@ -146,7 +147,7 @@ state_back rules state fits =
       depth_back state.suspended fits.suspended,
     ) refl
 
-states_back : (rules : StateRules) (states : List AbsState) → AreLawful rules states → states_of rules (map state_data states) ≡ Ok states
+pub states_back : (rules : StateRules) (states : List AbsState) → AreLawful rules states → states_of rules (map state_data states) ≡ Ok states
 states_back rules states lawful = rw (all_back (state_of rules) state_data (FitsRules rules) (state_back rules) 0 states lawful.fit, lawful.once) refl
 
 -- ---- forms
@@ -169,7 +170,7 @@ isr_form : (isr : Option IsrAt) → is_isr (isr_data isr) ≡ true
 isr_form None = refl
 isr_form (Some at) = refl
 
-state_form : (state : AbsState) → is_state (state_data state) ≡ true
+pub state_form : (state : AbsState) → is_state (state_data state) ≡ true
 state_form state =
     rw (
       members_of-items_of (map task_data state.tasks),
@@ -199,7 +200,7 @@ parts_back name cert =
       all_pass is_state state_data state_form cert.states,
     ) refl
 
-multipliers_back : (multipliers : List ℕ) → AllByRecursion (λ m. m < 2 ^ 80) multipliers
+pub multipliers_back : (multipliers : List ℕ) → AllByRecursion (λ m. m < 2 ^ 80) multipliers
     → each_from (λ _. multiplier_in) 0 (map digits_data multipliers) ≡ Ok multipliers
 multipliers_back multipliers small =
     all_back multiplier_in digits_data (λ m. m < 2 ^ 80) (λ m below. rw (digits_below-decimal (2 ^ 80) m below (omega arith)) refl) 0 multipliers small
@@ -228,7 +229,7 @@ cert_back name rules task cert lawful =
 
 -- ---- no float, and few levels
 
-all_exact : {A : Type 0} (data_of : A → Data) → ((x : A) → has_float (data_of x) ≡ false) → (xs : List A) → items_have_float (items_of (map data_of xs)) ≡ false
+pub all_exact : {A : Type 0} (data_of : A → Data) → ((x : A) → has_float (data_of x) ≡ false) → (xs : List A) → items_have_float (items_of (map data_of xs)) ≡ false
 all_exact data_of exact [] = refl
 all_exact data_of exact (x ∷ xs) = rw (exact x, all_exact data_of exact xs) refl
 
@@ -244,14 +245,14 @@ isr_exact : (isr : Option IsrAt) → has_float (isr_data isr) ≡ false
 isr_exact None = refl
 isr_exact (Some at) = refl
 
-state_exact : (state : AbsState) → has_float (state_data state) ≡ false
+pub state_exact : (state : AbsState) → has_float (state_data state) ≡ false
 state_exact state = rw (all_exact task_data task_exact state.tasks, isr_exact state.isr, flag_exact state.disabled) refl
 
 cert_exact : (name : List ℕ) (cert : Cert) → has_float (cert_data name cert) ≡ false
 unfolding cert_data
 cert_exact name cert = rw (all_exact digits_data (λ _. refl) cert.multipliers, all_exact state_data state_exact cert.states) refl
 
-all_shallow : {A : Type 0} (data_of : A → Data) (n : ℕ) → ((x : A) → depth (data_of x) ≤ n) → (xs : List A) → items_depth (items_of (map data_of xs)) ≤ n
+pub all_shallow : {A : Type 0} (data_of : A → Data) (n : ℕ) → ((x : A) → depth (data_of x) ≤ n) → (xs : List A) → items_depth (items_of (map data_of xs)) ≤ n
 all_shallow data_of n shallow [] = omega arith
 all_shallow data_of n shallow (x ∷ xs) = omega (arith, shallow x, all_shallow data_of n shallow xs)
 
@@ -267,7 +268,7 @@ isr_shallow : (isr : Option IsrAt) → depth (isr_data isr) ≤ 1
 isr_shallow None = omega arith
 isr_shallow (Some at) = omega arith
 
-state_shallow : (state : AbsState) → depth (state_data state) ≤ 3
+pub state_shallow : (state : AbsState) → depth (state_data state) ≤ 3
 state_shallow state = omega (arith, all_shallow task_data 1 task_shallow state.tasks, isr_shallow state.isr, flag_shallow state.disabled)
 
 cert_shallow : (name : List ℕ) (cert : Cert) → depth (cert_data name cert) ≤ max_depth
@@ -290,4 +291,33 @@ read_again name cert d text is utf8 reads rules task lawful =
       d,
       (IsUtf8-append text (10 ∷ []) utf8 (IsUtf8-are_ascii (10 ∷ []) refl), read-newline text ∙ reads shallow),
       ap (cert_in rules task name) is ∙ cert_back name rules task cert lawful,
+    )
+
+-- ---- a list of states
+
+states_exact : (states : List AbsState) → has_float (list_data (map state_data states)) ≡ false
+states_exact states = all_exact state_data state_exact states
+
+states_shallow : (states : List AbsState) → depth (list_data (map state_data states)) ≤ max_depth
+states_shallow states = omega (arith, all_shallow state_data 3 state_shallow states)
+
+states_list_back : (rules : StateRules) (states : List AbsState) → AreLawful rules states → states_in rules (list_data (map state_data states)) ≡ Ok states
+states_list_back rules states lawful =
+    rw (members_of-items_of (map state_data states), all_pass is_state state_data state_form states) (states_back rules states lawful)
+
+pub states_text_of : (states : List AbsState) (d : Data) (text : List ℕ) → d ≡ list_data (map state_data states)
+    → (has_float d ≡ false → text ≡ compact_text d) → text ++ 10 ∷ [] ≡ states_text states
+states_text_of states d text is written =
+    let exact : has_float d ≡ false = rw is (states_exact states) in
+    ap (λ t. t ++ 10 ∷ []) (written exact ∙ ap compact_text is)
+
+pub states_read_again : (states : List AbsState) (d : Data) (text : List ℕ) → d ≡ list_data (map state_data states) → IsUtf8 text
+    → (depth d ≤ max_depth → read text ≡ Some d) → (rules : StateRules) → AreLawful rules states
+    → IsGiven states_kinds.Json (states_in rules) (text ++ 10 ∷ []) (Ok states)
+states_read_again states d text is utf8 reads rules lawful =
+    let shallow : depth d ≤ max_depth = rw is (states_shallow states) in
+    inl (
+      d,
+      (IsUtf8-append text (10 ∷ []) utf8 (IsUtf8-are_ascii (10 ∷ []) refl), read-newline text ∙ reads shallow),
+      ap (states_in rules) is ∙ states_list_back rules states lawful,
     )

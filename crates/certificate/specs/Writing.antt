@@ -66,6 +66,10 @@ cert_data name cert = object (
 abbrev pub cert_text : List ℕ → Cert → List ℕ
 cert_text name cert = compact_text (cert_data name cert) ++ 10 ∷ []
 
+-- the same of a list of states alone
+abbrev pub states_text : List AbsState → List ℕ
+states_text states = compact_text (list_data (map state_data states)) ++ 10 ∷ []
+
 -- ---- worked cases
 
 lone : Cert
@@ -83,6 +87,10 @@ its_line : cert_text (codes "T") lone
     ≡ codes "{\"bound\":\"13\",\"denominator\":\"1\",\"multipliers\":[\"13\",\"10\",\"3\",\"2\",\"1\",\"0\",\"3\",\"0\",\"0\"],\"states\":[[0,[[0,0]],[],0,0],[0,[[]],[],0,0]],\"task\":\"T\"}\n"
 unfolding lone cert_data digits escape_byte
 its_line = refl
+
+its_states : states_text lone.states ≡ codes "[[0,[[0,0]],[],0,0],[0,[[]],[],0,0]]\n"
+unfolding lone digits
+its_states = refl
 
 -- a task that holds resources 1 and 4 with its inner ceiling in force, while ISR 2 is active
 interrupted : AbsState

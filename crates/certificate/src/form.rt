@@ -57,7 +57,7 @@ pub(crate) fn is_state(value: &Value) -> bool
 }
 
 /// Whether each value has the form of a state.
-pub(crate) fn are_states(values: &[Value]) -> bool
+pub fn are_states(values: &[Value]) -> bool
     ensures { result ≡ list_all (λ v. words.is_state (view v)) values.now }
 {
     values.iter().all(|value| is_state(value))

@@ -26,10 +26,10 @@ use serde_json::Value;
 use std::alloc::Global;
 
 /// Bounds are below it.
-const BOUND_LIMIT: u128 = 1 << 120;
+pub const BOUND_LIMIT: u128 = 1 << 120;
 
 /// Denominators and multipliers are below it.
-const MULTIPLIER_LIMIT: u128 = 1 << 80;
+pub const MULTIPLIER_LIMIT: u128 = 1 << 80;
 
 /// What is no number within its limit.
 const OUT_OF_RANGE: CertFault = Fault::Kind(CertKind::Range);
@@ -48,9 +48,9 @@ struct StatesFormat<'r> {
     rules: &'r StateRules,
 }
 
-/// A multiplier of a row.
+/// A multiplier of a row: a text of decimal digits, for a number below its limit.
 #[derive(Clone, Copy)]
-struct MultiplierFormat;
+pub struct MultiplierFormat;
 
 /// The members of a value that has the form of a certificate.
 #[derive(Clone, Copy)]

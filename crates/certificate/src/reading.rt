@@ -83,11 +83,7 @@ impl Format for HeldFormat<'_> {
 }
 
 /// The states that the values are, each of them once.
-pub(crate) fn states_of(
-    alloc: Global,
-    rules: &StateRules,
-    values: &[Value],
-) -> Result<States, StatesFault>
+pub fn states_of(alloc: Global, rules: &StateRules, values: &[Value]) -> Result<States, StatesFault>
     ensures { Gives result (words.states_of rules.now (map view values.now)) }
 {
     let states = each(alloc, &StateFormat { rules }, values)?;

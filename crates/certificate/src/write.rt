@@ -1,16 +1,20 @@
-//! From a certificate to its text.
+//! From a certificate, and from a list of states, to the text.
 
 ghost use Rattle.std.specs.Prelude.{◌≡◌, ℕ, Ok, IfOk};
 ghost use Rattle.json_fields.specs.Files.{IsGiven};
 ghost use Rattle.serde_json.specs.View.{view};
 ghost use Rattle.abstract_sched.specs.declared.rules.StateRules.{StateRules};
+ghost use Rattle.abstract_sched.specs.Fits.{AreLawful};
 ghost use Rattle.certificate.specs.Certificate.{cert_in};
 ghost use Rattle.certificate.specs.Lawful.{IsLawful};
-ghost use Rattle.certificate.specs.Writing.{cert_data, cert_text};
+ghost use Rattle.certificate.specs.States.{states_in};
+ghost use Rattle.certificate.specs.Writing.{cert_data, cert_text, states_text};
 ghost use Rattle.certificate.specs.declared.fault.CertKind.TheVariants as CertKind;
+ghost use Rattle.certificate.specs.declared.fault.StatesKind.TheVariants as StatesKind;
 
 use crate::cert::Cert;
 use crate::writing::{digits_value, list_of};
+use abstract_sched::AbsState;
 use listed::{ListedNumbers, Memory};
 use serde_json::{Value, json};
 use std::alloc::{AllocError, Global};
@@ -29,6 +33,22 @@ pub fn write_cert(alloc: Global, name: &str, cert: &Cert) -> Result<CertText, Me
     let mut bytes = value.to_vec(alloc)?;
     bytes.push(b'\n')?;
     Ok(CertText::from_vec(bytes))
+}
+
+/// The text of a list of scheduler states.
+pub type StatesText = ListedNumbers<u8>;
+
+/// The text of a list of states: one line, which `read_states` reads again.
+pub fn write_states(alloc: Global, states: &[AbsState]) -> Result<StatesText, Memory>
+    ensures text { IfOk result (λ text. text ≡ states_text states.now) }
+    ensures again { (rules : StateRules) → AreLawful rules states.now
+        → IfOk result (λ text.
+        IsGiven StatesKind.Json (states_in rules) text (Ok states.now)) }
+{
+    let value = list_of(alloc, states)?;
+    let mut bytes = value.to_vec(alloc)?;
+    bytes.push(b'\n')?;
+    Ok(StatesText::from_vec(bytes))
 }
 
 #[tactic(auto, unfolding(crate::specs::Writing::cert_data))]

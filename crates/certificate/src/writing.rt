@@ -9,7 +9,7 @@ use serde_json::{Value, json};
 use std::alloc::{AllocError, Global};
 
 /// What is written as a JSON value.
-pub(crate) trait Written {
+pub trait Written {
     ghost use Rattle.serde_json.specs.Data.{Data};
 
     ghost data_of: { Self → Data };
@@ -67,7 +67,7 @@ impl Written for AbsState {
 }
 
 /// The list of what is written for each of the members.
-pub(crate) fn list_of<T: Written>(alloc: Global, members: &[T]) -> Result<Value, AllocError>
+pub fn list_of<T: Written>(alloc: Global, members: &[T]) -> Result<Value, AllocError>
     ensures { IfOk result (λ v. view v ≡ words.list_data (map T.data_of members.now)) }
 {
     list_after(alloc, Vec::new(alloc), members)
@@ -89,7 +89,8 @@ fn list_after<T: Written>(
     Ok(Value::Array(values))
 }
 
-pub(crate) fn digits_value(alloc: Global, number: u128) -> Result<Value, AllocError>
+/// The text of the number's decimal digits.
+pub fn digits_value(alloc: Global, number: u128) -> Result<Value, AllocError>
     ensures { IfOk result (λ v. view v ≡ words.digits_data number) }
 {
     let digits = format!(in alloc; "{number}")?;

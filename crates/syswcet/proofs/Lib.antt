@@ -1,15 +1,3 @@
 pub mod Numbers
-pub mod Solved
-pub mod TaskLines
 pub mod Commands
 pub mod Headline
-pub mod Halts
-pub mod Lines
-pub mod Declared
-pub mod TaskNames
-pub mod Lasting
-pub mod Analysing
-pub mod CertTexts
-pub mod Certified
-pub mod Saying
-pub mod AllBounds

@@ -2,20 +2,15 @@
 use Rattle.std.specs.Prelude.{◌≡◌, ℕ, List, [], ◌∷◌, ◌++◌, Option, Some, None, Err}
 use Rattle.command_steps.specs.Steps.{Calls, Step, Judged}
 use Rattle.reports.specs.Refusals.{words_refusal}
+use Rattle.inputs.specs.Subjects.{subject_files}
 use Rattle.syswcet.specs.declared.words.Command.{Command}
 use Rattle.syswcet.specs.declared.words.Command.TheVariants as command
-use Rattle.syswcet.specs.declared.words.Subject.{Subject}
-use Rattle.syswcet.specs.declared.words.Subject.TheVariants.{Lone, Named}
-use Rattle.syswcet.specs.All.{All}
-use Rattle.syswcet.specs.Check.{Check}
-use Rattle.syswcet.specs.Replay.{Replay}
-use Rattle.syswcet.specs.ShowCode.{ShowCode}
-use Rattle.syswcet.specs.ShowOil.{ShowOil}
-use Rattle.syswcet.specs.Solving.{Bound, Certify}
-
-abbrev pub subject_files : Subject → List (List ℕ)
-subject_files (Lone image) = image ∷ []
-subject_files (Named oil elf timing task) = oil ∷ elf ∷ timing ∷ []
+use Rattle.bound_commands.specs.All.{All}
+use Rattle.bound_commands.specs.Check.{Check}
+use Rattle.show_commands.specs.Replay.{Replay}
+use Rattle.show_commands.specs.ShowCode.{ShowCode}
+use Rattle.show_commands.specs.ShowOil.{ShowOil}
+use Rattle.bound_commands.specs.Solving.{Bound, Certify}
 
 -- the names of the files that a command reads; words that have no shape name none
 abbrev pub files_of : Option Command → List (List ℕ)

@@ -1,15 +1,3 @@
 pub mod Headline
 pub mod Words
-pub mod Inputs
-pub mod Plants
-pub mod Subjects
-pub mod States
-pub mod Check
-pub mod Solving
-pub mod All
-pub mod ShowOil
-pub mod ShowCode
-pub mod Replay
 pub mod Commands
-pub mod Found
-pub mod Lines

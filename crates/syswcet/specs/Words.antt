@@ -4,10 +4,11 @@ use Rattle.std.specs.Char.{is_ascii_digit}
 use Rattle.std.specs.List.{list_all}
 use Rattle.std.specs.Option.{option_map}
 use Rattle.std.specs.Str.Parse.{digits_value}
+use Rattle.bound_commands.specs.Solving.{usual_pivots}
 use Rattle.syswcet.specs.declared.words.Command.{Command}
 use Rattle.syswcet.specs.declared.words.Command.TheVariants.{Check, Bound, Certify, All, ShowOil, ShowCode, Replay}
-use Rattle.syswcet.specs.declared.words.Subject.{Subject}
-use Rattle.syswcet.specs.declared.words.Subject.TheVariants.{Lone, Named}
+use Rattle.inputs.specs.declared.subjects.Subject.{Subject}
+use Rattle.inputs.specs.declared.subjects.Subject.TheVariants.{Lone, Named}
 
 -- the word at a place, counted from 0
 abbrev pub word : List (List ℕ) → ℕ → List ℕ
@@ -38,10 +39,6 @@ pivots_within n = if nat_le 1 n && nat_le n 10000000 then Some n else None
 
 abbrev pub pivots_of : List ℕ → Option ℕ
 pivots_of text = option_and_then pivots_within (number_of text)
-
--- the limit where the words name none
-abbrev pub usual_pivots : ℕ
-usual_pivots = 100000
 
 -- ---- what is analysed: behind the command's name stands `lone IMAGE`, or else `OIL ELF TIMING TASK`
 

@@ -1,21 +1,10 @@
-//! The program `syswcet`: response-time bounds of OSEK tasks from their binaries. A command stands
-//! in one file, from its first read to its text; the files that it reads are its inputs, one
-//! function each.
+//! The program `syswcet`: response-time bounds of OSEK tasks from their binaries. The words tell the
+//! command; each command is one call of the crate of its family.
 //!
 //!     let status = run(alloc, &words, &mut files, &mut out);    // words: bound o e t T k
 #![tactic(auto)]
 
-mod all_bounds;
-mod checked;
-mod oil_files;
-mod plants;
-mod played;
 mod run;
-mod show_code;
-mod show_oil;
-mod solving;
-mod states;
-mod subjects;
 mod words;
 
 use crate::run::run;
@@ -60,3 +49,5 @@ fn out_of_memory(_refused: Memory) -> io::Error {
 
 #[cfg(test)]
 mod tests;
+#[cfg(test)]
+mod tests_damaged;

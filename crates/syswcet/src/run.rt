@@ -6,18 +6,13 @@ ghost use Rattle.reports.specs.Refusals.{words_refusal};
 ghost use Rattle.syswcet.specs.Words.{command_of};
 ghost use Rattle.syswcet.specs.Commands.{StepsOf, files_of};
 ghost use Rattle.syswcet.specs.Headline.{Means};
-ghost use Rattle.syswcet.specs.Lines.{LinesBound};
 
-use crate::all_bounds::all_bounds;
-use crate::checked::checked;
-use crate::played::replayed;
-use crate::show_code::show_code;
-use crate::show_oil::show_oil;
-use crate::solving::{bounded, certified};
 use crate::words::{Command, command_of};
+use bound_commands::{all_bounds, bounded, certified, checked};
 use command_steps::{Halt, Status, report};
 use listed::Memory;
 use reports::words_refusal;
+use show_commands::{replayed, show_code, show_oil};
 use std::alloc::Global;
 use wcet_io::{Bytes, Files, Sink, SureFiles, SureSink, Words};
 
@@ -47,11 +42,6 @@ pub fn run_surely(alloc: Global, words: &Words, files: &mut SureFiles, out: &mut
 {
     run(alloc, words, files, out)
 }
-
-/// Each line `TASK N` that `all` writes bounds its task, those before a refusal too. Does nothing.
-pub fn lines_bound_tasks()
-    ensures { LinesBound }
-{}
 
 /// What the steps of the command that the words name give.
 fn answer<F: Files>(alloc: Global, words: &Words, files: &mut F) -> Result<Bytes, Halt>

@@ -46,7 +46,7 @@ const ENDS_UNDER_LOCK: [u8; 24] = [
     0x93, 0x08, 0x20, 0x00, 0x73, 0x00, 0x00, 0x00,
 ];
 
-const GOOD: &str =
+pub(crate) const GOOD: &str =
     r#"{"bound":"13","denominator":"1","multipliers":["13","10","3","2","1","0","3","0","0"],"states":[[0,[[0,0]],[],0,0],[0,[[]],[],0,0]],"task":"T"}"#;
 
 /// The same with the end of the line.
@@ -104,7 +104,7 @@ const TWO_TASKS: &str =
 
 /// Their code, from 0x100 and from 0x110 on: `li t0, 7` in T alone, and then TerminateTask.
 #[rattlefmt::skip]
-const TWO_TASKS_ELF: [u8; 360] = [
+pub(crate) const TWO_TASKS_ELF: [u8; 360] = [
     0x7f, 0x45, 0x4c, 0x46, 0x01, 0x01, 0x01, 0x00, 0x00, 0x00, 0x00, 0x00, 0x00, 0x00, 0x00, 0x00, 0x02, 0x00, 0xf3, 0x00, 0x01, 0x00, 0x00, 0x00,
     0x00, 0x01, 0x00, 0x00, 0x34, 0x00, 0x00, 0x00, 0xc8, 0x00, 0x00, 0x00, 0x00, 0x00, 0x00, 0x00, 0x34, 0x00, 0x20, 0x00, 0x01, 0x00, 0x28, 0x00,
     0x04, 0x00, 0x03, 0x00, 0x01, 0x00, 0x00, 0x00, 0x54, 0x00, 0x00, 0x00, 0x00, 0x01, 0x00, 0x00, 0x00, 0x01, 0x00, 0x00, 0x1c, 0x00, 0x00, 0x00,
@@ -122,7 +122,7 @@ const TWO_TASKS_ELF: [u8; 360] = [
     0xa0, 0x00, 0x00, 0x00, 0x25, 0x00, 0x00, 0x00, 0x00, 0x00, 0x00, 0x00, 0x00, 0x00, 0x00, 0x00, 0x01, 0x00, 0x00, 0x00, 0x00, 0x00, 0x00, 0x00,
 ];
 
-const TWO_TASKS_TIMES: &str =
+pub(crate) const TWO_TASKS_TIMES: &str =
     r#"{"version":1,"classes":{"default":1},"services":{"default":20},"alarm":30,"interrupt":10,"ticks":{"C":1}}"#;
 
 const NO_TICKS: &str =
@@ -137,14 +137,14 @@ const JUST_SELDOM_ENOUGH: &str =
     "OIL_VERSION = \"2.5\"; CPU Demo { APPMODE Main; COUNTER C { MINCYCLE = 1; }; TASK T { PRIORITY = 1; AUTOSTART = TRUE { APPMODE = Main; }; }; TASK H { PRIORITY = 2; }; ALARM Tick { COUNTER = C; ACTION = ACTIVATETASK { TASK = H; }; AUTOSTART = TRUE { CYCLETIME = 53; APPMODE = Main; }; }; };";
 
 /// The states of the two tasks: T alone, both, none, H alone.
-const TWO_TASKS_CLOSED: &str =
+pub(crate) const TWO_TASKS_CLOSED: &str =
     "[[0,[[0,0],[]],[],0,0],[0,[[0,0],[1,0]],[],0,0],[0,[[],[]],[],0,0],[0,[[],[1,0]],[],0,0]]";
 
 /// Without the last one.
 const TWO_TASKS_NOT_CLOSED: &str =
     "[[0,[[0,0],[]],[],0,0],[0,[[0,0],[1,0]],[],0,0],[0,[[],[]],[],0,0]]";
 
-const TWO_TASKS_GOOD: &str =
+pub(crate) const TWO_TASKS_GOOD: &str =
     r#"{"bound":"133","denominator":"237","multipliers":["5750","5000","10000","750","500","250","0","500","250","0","750","0","0","500","0","13"],"states":[[0,[[0,0],[]],[],0,0],[0,[[0,0],[1,0]],[],0,0],[0,[[],[]],[],0,0],[0,[[],[1,0]],[],0,0]],"task":"T"}"#;
 
 const TWO_TASKS_TOO_LOW: &str =

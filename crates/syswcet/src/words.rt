@@ -3,47 +3,18 @@ ghost use Rattle.std.specs.Prelude.{◌≡◌, ◌<◌, ◌≤◌, ◌&&◌, if�
 ghost use Rattle.std.specs.Char.{is_ascii_digit};
 ghost use Rattle.std.specs.List.{list_all};
 ghost use Rattle.std.specs.Option.{option_map};
-ghost use Rattle.syswcet.specs.declared.words.Subject.TheVariants.{Lone, Named};
+ghost use Rattle.inputs.specs.declared.subjects.Subject.TheVariants.{Lone, Named};
 ghost use Rattle.syswcet.specs.Words as shapes;
 ghost use Rattle.syswcet.specs.Words.{word, place_behind};
-ghost use Rattle.syswcet.specs.Subjects.{name_of};
 
+use bound_commands::USUAL_PIVOTS;
+use inputs::Subject;
 use listed::Memory;
 use std::alloc::Global;
 use wcet_io::{Text, Words};
 
-/// The limit on pivots where the words name none, and the greatest that they may name.
-pub const USUAL_PIVOTS: u32 = 100_000;
-
+/// The greatest limit on pivots that the words may name.
 const MOST_PIVOTS: u64 = 10_000_000;
-
-/// What is analysed.
-#[derive(Debug, Drop)]
-pub enum Subject {
-    /// The task of a flat image, which is named `T`.
-    Lone {
-        image: Text,
-    },
-    /// The task of this name in the system that the three files make.
-    Named {
-        oil: Text,
-        elf: Text,
-        timing: Text,
-        task: Text,
-    },
-}
-
-impl Subject {
-    /// The name of the task.
-    pub fn name(&self) -> &str
-        ensures { result.now ≡ name_of self.now }
-    {
-        match self {
-            Subject::Lone { .. } => "T",
-            Subject::Named { task, .. } => task.as_str(),
-        }
-    }
-}
 
 /// A command, with its files by name.
 #[derive(Debug, Drop)]

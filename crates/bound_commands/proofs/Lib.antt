@@ -1,0 +1,9 @@
+pub mod Solved
+pub mod TaskLines
+pub mod Lasting
+pub mod CertTexts
+pub mod OptimumCerts
+pub mod Saying
+pub mod AllBounds
+pub mod Honest
+pub mod Headline

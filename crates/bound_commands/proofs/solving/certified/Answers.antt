@@ -1,0 +1,13 @@
+use Rattle.std.proofs.Common.{ℕ, List, inl, subst}
+use Rattle.command_steps.specs.Steps.{IsCall}
+use Rattle.bound_commands.specs.Solving.{CertifyOn}
+use Rattle.bound_commands.proofs.solving.certified.Goals as goal
+
+pub returns : goal.returns
+returns g c =
+    let calls = IsCall g.F.Files.outside g.F.Files.reads in
+    let analysed = c.in_ok-analysed.analysed in
+    let next = subst
+    (λ (name : List ℕ). CertifyOn calls c.args.states.now c.args.pivots name analysed c.read_subject.new.files c.certify_on.result c.certify_on.new.files)
+    c.name.ensures c.certify_on.ensures in
+    inl (analysed, c.read_subject.new.files, c.in_ok-analysed.ensures, next)

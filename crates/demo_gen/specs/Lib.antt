@@ -1,0 +1,6 @@
+pub mod Draws
+pub mod Demo
+pub mod Texts
+pub mod Reading
+pub mod Cases
+pub mod Working

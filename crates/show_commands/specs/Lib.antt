@@ -1,0 +1,4 @@
+pub mod ShowOil
+pub mod ShowCode
+pub mod Replay
+pub mod Shown

@@ -1,8 +1,0 @@
-use Rattle.std.proofs.Common.{inr}
-use Rattle.syswcet.proofs.Halts.{err_is}
-use Rattle.syswcet.proofs.plants.plant_of.Goals as goal
-
-pub returns-in_err-system : goal.returns-in_err-system
-returns-in_err-system g c =
-    let halt = c.in_err-system.field-0.0 in
-    inr (halt, c.in_err-system.ensures.steps, err_is c.from_residual.result halt c.from_residual.ensures.0 c.from_residual.ensures.1)
