@@ -7,7 +7,7 @@ use Rattle.osek_machine.specs.Events.{duration}
 use Rattle.wcet_atomic_blocks.specs.Plants.{PlantData, IsPlant}
 use Rattle.abstract_sched.specs.States.{same_state}
 use Rattle.row_build.specs.Rows.{rows_of}
-use Rattle.activation_windows.specs.Bounds.{AreFor, ArePoint, BoundsActivations, UsesArePoints}
+use Rattle.activation_windows.specs.Bounds.{AreFor, BoundsActivations, UsesArePoints}
 use Rattle.activation_windows.proofs.Bounding.{has_window}
 use Rattle.activation_windows.proofs.Points.{rows_are_shaped, counts_fit}
 use Rattle.split_trees.specs.Laws.{GoodTreesBound}

@@ -1,16 +1,15 @@
 -- Lists of values, against the forms that they may have.
-use Rattle.std.proofs.Common.{◌≡◌, ℕ, zero, suc, ◌<◌, ◌≤◌, Bool, true, false, List, [], ◌∷◌, length, get_or, map, Option, Some, None, Err, refl, sym, ap, ◌∙◌, subst, arith}
-use Rattle.std.specs.Prelude.{option_map}
+use Rattle.std.proofs.Common.{◌≡◌, List, [], ◌∷◌, length, get_or, map, Some, None, refl, sym, ap, ◌∙◌, arith}
 use Rattle.std.specs.List.{list_all}
 use Rattle.std.proofs.lemmas.List.Folds.{list_all-map}
 use Rattle.std.proofs.lemmas.Option.{none-some, same_Some}
-use Rattle.serde_json.specs.Data.{Data, null, boolean, number, string, array, object, Items, no_items, item, depth}
+use Rattle.serde_json.specs.Data.{Data, null, boolean, number, string, array, object, Items, no_items, item}
 use Rattle.serde_json.specs.View.{view, items_of, items_view}
 use Rattle.serde_json.specs.declared.value.Value.{Value}
 use Rattle.json_fields.specs.Forms.{is_text}
 use Rattle.json_fields.specs.Lists.{list_in, members_of}
 use Rattle.split_cert.specs.Certificate.{tree_in, branch_in}
-use Rattle.split_cert.specs.Form.{is_tree, is_branch, are_texts}
+use Rattle.split_cert.specs.Form.{are_texts}
 use Rattle.split_cert.specs.Working.Branches.{HasNoForm, IsThree, IsFive}
 
 items_of-members_of : (items : Items) → items_of (members_of items) ≡ items

@@ -1,6 +1,5 @@
 pub mod Bounding
 pub mod Branches
-pub mod Judging
-pub mod Laws
+pub mod Limits
 pub mod Parts
 pub mod Written

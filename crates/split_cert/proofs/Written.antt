@@ -1,5 +1,5 @@
 -- A split certificate that is written is read again as the same one.
-use Rattle.std.proofs.Common.{◌≡◌, ℕ, suc, ◌+◌, ◌^◌, ◌<◌, ◌≤◌, Bool, true, false, List, [], ◌∷◌, ◌++◌, map, max, Some, Ok, refl, sym, ap, ◌∙◌, arith, inl, decimal}
+use Rattle.std.proofs.Common.{◌≡◌, ℕ, ◌+◌, ◌^◌, ◌≤◌, true, false, List, [], ◌∷◌, ◌++◌, map, Some, Ok, refl, sym, ap, ◌∙◌, arith, inl, decimal}
 use Rattle.std.proofs.lemmas.Bool.{le-leb, ne_eqb}
 use Rattle.std.proofs.lemmas.Slice.Eq.{bytes_eq-Decides}
 use Rattle.std.proofs.lemmas.Str.{IsUtf8-append}
@@ -14,7 +14,7 @@ use Rattle.json_fields.proofs.Words.{members_of-items_of}
 use Rattle.abstract_sched.specs.declared.rules.StateRules.{StateRules}
 use Rattle.certificate.specs.declared.fault.CertKind.TheVariants as cert_kinds
 use Rattle.certificate.specs.Form.{is_state}
-use Rattle.certificate.specs.Writing.{number_data, digits_data, state_data}
+use Rattle.certificate.specs.Writing.{digits_data, state_data}
 use Rattle.certificate.proofs.Decimals.{digits_below-decimal}
 use Rattle.certificate.proofs.Newlines.{read-newline}
 use Rattle.certificate.proofs.Written.{states_back, multipliers_back, all_pass, all_exact, all_shallow, state_form, state_exact, state_shallow}

@@ -9,7 +9,7 @@ use Rattle.serde_json.specs.Find.{get, as_str}
 use Rattle.json_fields.specs.Forms.{is_number, is_text}
 use Rattle.json_fields.specs.Lists.{list_in}
 use Rattle.json_fields.specs.Objects.{has_exactly, text_at, list_at}
-use Rattle.certificate.specs.Form.{is_list_with, is_state}
+use Rattle.certificate.specs.Form.{is_state}
 
 -- the text is this word
 abbrev pub is_word : List ℕ → Data → Bool

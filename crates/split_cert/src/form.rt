@@ -106,18 +106,22 @@ fn is_tree(value: &Value) -> bool
     ensures { result ≡ words.is_tree (view value.now) }
 {
     match branch_of(value) {
-        Some(Branch::Three {
-            word,
-            denominator,
-            multipliers,
-        }) => is_leaf(word, denominator, multipliers),
-        Some(Branch::Five {
-            word,
-            column,
-            k,
-            low,
-            high,
-        }) => is_cut(word, column, k) && is_tree(low) && is_tree(high),
+        Some(
+            Branch::Three {
+                word,
+                denominator,
+                multipliers,
+            },
+        ) => is_leaf(word, denominator, multipliers),
+        Some(
+            Branch::Five {
+                word,
+                column,
+                k,
+                low,
+                high,
+            },
+        ) => is_cut(word, column, k) && is_tree(low) && is_tree(high),
         None => false,
     }
 }

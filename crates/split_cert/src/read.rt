@@ -100,18 +100,22 @@ fn tree_in(alloc: Global, value: &Value) -> Result<SplitTree, CertFault>
     ensures { Gives result (words.tree_in (view value.now)) }
 {
     match branch_of(value) {
-        Some(Branch::Three {
-            denominator,
-            multipliers,
-            ..
-        }) => leaf_in(alloc, denominator, multipliers),
-        Some(Branch::Five {
-            column,
-            k,
-            low,
-            high,
-            ..
-        }) => {
+        Some(
+            Branch::Three {
+                denominator,
+                multipliers,
+                ..
+            },
+        ) => leaf_in(alloc, denominator, multipliers),
+        Some(
+            Branch::Five {
+                column,
+                k,
+                low,
+                high,
+                ..
+            },
+        ) => {
             let place = place_in(column, k)?;
             let low = tree_in(alloc, low)?;
             let high = tree_in(alloc, high)?;
@@ -149,8 +153,5 @@ fn leaf_in(alloc: Global, denominator: &Value, multipliers: &Value) -> Result<Sp
     if denominator == 0 {
         return Err(OUT_OF_RANGE);
     }
-    Ok(SplitTree::leaf(
-        denominator,
-        Numbers::from_vec(multipliers.into_vec()),
-    ))
+    Ok(SplitTree::leaf(denominator, Numbers::from_vec(multipliers.into_vec())))
 }

@@ -60,11 +60,7 @@ fn tree_value(alloc: Global, tree: &SplitTree) -> Result<Value, AllocError>
     }
 }
 
-fn leaf_value(
-    alloc: Global,
-    denominator: u128,
-    multipliers: &[u128],
-) -> Result<Value, AllocError>
+fn leaf_value(alloc: Global, denominator: u128, multipliers: &[u128]) -> Result<Value, AllocError>
     ensures { IfOk result (λ v. view v ≡ leaf_data denominator multipliers.now) }
 {
     let denominator = digits_value(alloc, denominator)?;

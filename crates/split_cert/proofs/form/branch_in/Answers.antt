@@ -1,4 +1,4 @@
-use Rattle.std.proofs.Common.{◌≡◌, length, arith}
+use Rattle.std.proofs.Common.{arith}
 use Rattle.split_cert.proofs.Branches.{other_length, three_items, five_items}
 use Rattle.split_cert.proofs.form.branch_in.Goals as goal
 

@@ -1,4 +1,4 @@
-use Rattle.std.proofs.Common.{◌≡◌, sym, subst, map}
+use Rattle.std.proofs.Common.{sym, subst, map}
 use Rattle.serde_json.specs.Data.{Data}
 use Rattle.serde_json.specs.View.{view}
 use Rattle.split_cert.specs.Working.Branches.{IsBranchOf}

@@ -1,6 +1,6 @@
 use Rattle.json_fields.proofs.Laws.{IfOk-from_Answers}
 use Rattle.split_cert.specs.Lawful.{IsLawful}
-use Rattle.split_cert.proofs.Laws.{split_in-lawful}
+use Rattle.split_cert.proofs.Limits.{split_in-lawful}
 use Rattle.split_cert.proofs.read.read_split.Goals as goal
 
 pub returns-clause-lawful : goal.returns-clause-lawful
