@@ -11,6 +11,8 @@ use Rattle.show_commands.specs.Replay.{Replay}
 use Rattle.show_commands.specs.ShowCode.{ShowCode}
 use Rattle.show_commands.specs.ShowOil.{ShowOil}
 use Rattle.bound_commands.specs.Solving.{Bound, Certify}
+use Rattle.loops_command.specs.Loops.{Loops}
+use Rattle.split_commands.specs.Check.{CheckSplit}
 use Rattle.trace_commands.specs.Judge.{TraceJudge}
 use Rattle.trace_commands.specs.Record.{TraceRecord}
 
@@ -44,9 +46,9 @@ StepsOf calls (Some (command.All oil elf timing states)) = All calls oil elf tim
 StepsOf calls (Some (command.ShowOil oil)) = ShowOil calls oil
 StepsOf calls (Some (command.ShowCode oil elf timing)) = ShowCode calls oil elf timing
 StepsOf calls (Some (command.Replay oil elf timing schedule)) = Replay calls oil elf timing schedule
-StepsOf calls (Some (command.Loops oil elf timing task states)) = NotBuilt
+StepsOf calls (Some (command.Loops oil elf timing task states)) = Loops calls oil elf timing task states
 StepsOf calls (Some (command.SplitFind oil elf timing task states bound cuts)) = NotBuilt
-StepsOf calls (Some (command.SplitCheck oil elf timing task certificate)) = NotBuilt
+StepsOf calls (Some (command.SplitCheck oil elf timing task certificate)) = CheckSplit calls oil elf timing task certificate
 StepsOf calls (Some (command.TraceRecord oil elf timing schedule)) = TraceRecord calls oil elf timing schedule
 StepsOf calls (Some (command.TraceJudge oil elf timing task certificate trace)) = TraceJudge calls oil elf timing task certificate trace
 StepsOf calls (Some (command.Demo seed tasks)) = NotBuilt

@@ -11,8 +11,10 @@ use crate::words::{Command, command_of};
 use bound_commands::{all_bounds, bounded, certified, checked};
 use command_steps::{Halt, Status, report};
 use listed::Memory;
+use loops_command::loop_bounds;
 use reports::words_refusal;
 use show_commands::{replayed, show_code, show_oil};
+use split_commands::split_checked;
 use std::alloc::Global;
 use trace_commands::{trace_judged, trace_recorded};
 use wcet_io::{Bytes, Files, Sink, SureFiles, SureSink, Words};
@@ -96,9 +98,21 @@ fn answer_command<F: Files>(alloc: Global, command: &Command, files: &mut F) -> 
             timing,
             schedule,
         } => replayed(alloc, oil, elf, timing, schedule, files),
-        Command::Loops { .. } => no_command(alloc),
+        Command::Loops {
+            oil,
+            elf,
+            timing,
+            task,
+            states,
+        } => loop_bounds(alloc, oil, elf, timing, task, states, files),
         Command::SplitFind { .. } => no_command(alloc),
-        Command::SplitCheck { .. } => no_command(alloc),
+        Command::SplitCheck {
+            oil,
+            elf,
+            timing,
+            task,
+            certificate,
+        } => split_checked(alloc, oil, elf, timing, task, certificate, files),
         Command::TraceRecord {
             oil,
             elf,
