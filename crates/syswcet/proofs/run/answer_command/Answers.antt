@@ -51,8 +51,8 @@ returns-in-Loops g c =
 
 pub returns-in-SplitFind : goal.returns-in-SplitFind
 returns-in-SplitFind g c =
-    let P : Command → Type 0 = λ k. StepsOf (IsCall g.F.Files.outside g.F.Files.reads) (Some k) c.args.files.now c.no_command-in-SplitFind.result c.args.files.now in
-    subst P (sym c.in-SplitFind.is) (refl, c.no_command-in-SplitFind.ensures)
+    let P : Command → Type 0 = λ k. StepsOf (IsCall g.F.Files.outside g.F.Files.reads) (Some k) c.args.files.now c.no_command.result c.args.files.now in
+    subst P (sym c.in-SplitFind.is) (refl, c.no_command.ensures)
 
 pub returns-in-SplitCheck : goal.returns-in-SplitCheck
 returns-in-SplitCheck g c =
