@@ -102,12 +102,7 @@ fn states_of(alloc: Global, plant: &Plant, text: &[u8]) -> Result<States, Memory
 }
 
 /// The plant of three that have one.
-fn plant_of(
-    alloc: Global,
-    image: Image,
-    system: System,
-    timing: Timing,
-) -> Result<Plant, Memory>
+fn plant_of(alloc: Global, image: Image, system: System, timing: Timing) -> Result<Plant, Memory>
     requires system { IsLawfulSystem system }
     requires timing { IsLawfulTiming timing }
     requires have { HavePlant image system timing }
@@ -143,14 +138,7 @@ pub fn read_generated(alloc: Global, seed: u32, count: usize) -> Result<Generate
     ensures { IfOk result (IsGenerated seed count) }
 {
     let texts = demo(alloc, seed, count)?;
-    read_all(
-        alloc,
-        &Source {
-            seed,
-            count,
-            texts,
-        },
-    )
+    read_all(alloc, &Source { seed, count, texts })
 }
 
 fn read_all(alloc: Global, source: &Source) -> Result<Generated, Memory>
@@ -161,11 +149,7 @@ fn read_all(alloc: Global, source: &Source) -> Result<Generated, Memory>
     read_with_system(alloc, source, system)
 }
 
-fn read_with_system(
-    alloc: Global,
-    source: &Source,
-    system: System,
-) -> Result<Generated, Memory>
+fn read_with_system(alloc: Global, source: &Source, system: System) -> Result<Generated, Memory>
     requires whole { IsSource source.now }
     requires is { system ≡ the_system (tasks_in source.now) }
     requires lawful { IsLawfulSystem system }

@@ -9,8 +9,7 @@ use Rattle.demo_plants.proofs.reading.read_with_image.Goals as goal
 
 pub timing_of-requires : goal.timing_of-requires
 timing_of-requires c =
-    let tasks = tasks_in c.args.source.now in
-    (
+    let tasks = tasks_in c.args.source.now in (
       the_timing tasks,
       subst (λ bytes. IsGiven timing_kinds.Json timing_in bytes (Ok (the_timing tasks))) (sym c.as_slice.ensures) c.requires.whole.read.timing,
     )

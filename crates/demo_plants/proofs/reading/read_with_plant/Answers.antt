@@ -19,11 +19,10 @@ pub states_of-requires : goal.states_of-requires
 states_of-requires c =
     let source = c.args.source.now in
     let tasks = tasks_in source in
-    let covered = are_covered tasks (are_drawn source.seed source.count c.requires.whole.some c.requires.whole.few) c.args.plant c.requires.plant in
-    (
+    let covered = are_covered tasks (are_drawn source.seed source.count c.requires.whole.some c.requires.whole.few) c.args.plant c.requires.plant in (
       the_states (length tasks),
       subst (λ bytes. IsGiven states_kinds.Json (states_in (rules_of c.args.plant)) bytes (Ok (the_states (length tasks)))) (sym c.as_slice.ensures)
-      (subst (λ (rules : StateRules). IsGiven states_kinds.Json (states_in rules) source.texts.states (Ok (the_states (length tasks)))) (sym covered.rules) c.requires.whole.read.states),
+          (subst (λ (rules : StateRules). IsGiven states_kinds.Json (states_in rules) source.texts.states (Ok (the_states (length tasks)))) (sym covered.rules) c.requires.whole.read.states),
     )
 
 pub returns : goal.returns
