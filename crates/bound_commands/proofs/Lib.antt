@@ -2,7 +2,7 @@ pub mod Solved
 pub mod TaskLines
 pub mod Lasting
 pub mod CertTexts
-pub mod Certified
+pub mod OptimumCerts
 pub mod Saying
 pub mod AllBounds
 pub mod Honest

@@ -15,7 +15,7 @@ use Rattle.reports.specs.Solved.{bound_text}
 use Rattle.bound_commands.specs.Bounded.{HasBound}
 use Rattle.bound_commands.specs.Solving.{bound_saying, cert_saying}
 use Rattle.inputs.proofs.Analysing.{AreClosed}
-use Rattle.bound_commands.proofs.Certified.{optimum_cert, optimum_lawful, has_bound}
+use Rattle.bound_commands.proofs.OptimumCerts.{optimum_cert, optimum_lawful, has_bound}
 use Rattle.bound_commands.proofs.Lasting.{SaysOptimum, optimum_bounds}
 
 -- as `TASK N`

@@ -7,11 +7,11 @@
 #![tactic(auto)]
 
 mod all_tasks;
-mod checked;
+mod judging;
 mod laws;
 mod solving;
 
 pub use all_tasks::all_bounds;
-pub use checked::checked;
+pub use judging::checked;
 pub use laws::lines_bound_tasks;
 pub use solving::{USUAL_PIVOTS, bound_line, bounded, certified};

@@ -35,5 +35,5 @@ drawn_more seed count number state entry made task so is =
       state_is = rw so.state_is (next_state seed number);
       entry_is = rw (same, so.entry_is) (next_entry seed number);
       low = let low : draw seed (3 * number) % 20 < 20 = omega arith in rw same (omega (arith, so.low, low));
-      made_is = rw (same, so.made_is) (sym (map-range_with_len_more (task_at seed count) 0 number number refl));
+      made_is = rw (same, so.made_is) (sym (map-range_with_len_more (task_at seed count) 0 number number (omega arith)));
     }

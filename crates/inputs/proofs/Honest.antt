@@ -1,5 +1,5 @@
 -- What the steps of inputs leave of the outside: each reads files of the named ones only.
-use Rattle.std.proofs.Common.{ℕ, List, [], ◌∷◌, ◌++◌, Contains, refl, arith}
+use Rattle.std.proofs.Common.{ℕ, List, ◌∷◌, ◌++◌, Contains, refl, arith}
 use Rattle.wcet_io.specs.Files.{FilesOutside}
 use Rattle.elf_image.specs.Image.{ImageData}
 use Rattle.oil_grammar.specs.declared.tree.Tree.{Tree}

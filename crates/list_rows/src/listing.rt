@@ -37,7 +37,7 @@ pub struct Listing {
 }
 
 /// The rows with these names; what has none has that of its place.
-pub fn listing(
+pub fn listed_rows(
     alloc: Global,
     rows: &Rows,
     columns: &[ColumnName],

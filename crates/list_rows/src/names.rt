@@ -5,7 +5,7 @@ ghost use Rattle.std.specs.Prelude.{◌<◌, length};
 use abstract_sched::{AbsState, TaskAt};
 use anyhow::{Result, anyhow};
 use osek_kernel::{Context, Service, Source};
-use scheduler_moves::{Move, MoveLabel, initial, running_in, successors};
+use scheduler_moves::{Move, MoveLabel, Moves, initial, running_in, successors};
 use std::alloc::Global;
 use std::io;
 use std::io::Write;
@@ -97,7 +97,7 @@ pub struct Names {
 }
 
 /// The names of the full rows of the task over the listed states, and of their columns.
-pub fn names(
+pub fn name_all(
     alloc: Global,
     plant: &Plant,
     states: &[AbsState],
@@ -105,17 +105,37 @@ pub fn names(
     rows: &Rows,
 ) -> Result<Names> {
     let mut columns = Vec::new(alloc);
-    name_starts(alloc, &mut columns, plant, states, task)?;
-    name_moves(alloc, &mut columns, plant, states, task)?;
-    name_edges(&mut columns, plant)?;
-    name_blocks(&mut columns, plant, task)?;
+    name_steps(alloc, &mut columns, plant, states, task)?;
+    name_code(&mut columns, plant, task)?;
     let active = states.iter().filter(|state| is_active(state, task)).count();
     let standing = standing(alloc, plant, rows, columns.len(), active)?;
-    for node in standing.iter() {
-        columns.push(ColumnName::Node(*node))?;
-    }
+    name_nodes(&mut columns, &standing)?;
     let rows = row_names(alloc, plant, states, task, &standing, rows.row_count())?;
     Ok(Names { columns, rows })
+}
+
+fn name_steps(
+    alloc: Global,
+    columns: &mut Vec<ColumnName>,
+    plant: &Plant,
+    states: &[AbsState],
+    task: usize,
+) -> Result<()> {
+    name_modes(alloc, columns, plant, task)?;
+    name_starts(alloc, columns, plant, states, task)?;
+    name_moves(alloc, columns, plant, states, task)
+}
+
+fn name_code(columns: &mut Vec<ColumnName>, plant: &Plant, task: usize) -> Result<()> {
+    name_edges(columns, plant)?;
+    name_blocks(columns, plant, task)
+}
+
+fn name_nodes(columns: &mut Vec<ColumnName>, standing: &[usize]) -> Result<()> {
+    for node in standing {
+        columns.push(ColumnName::Node(*node))?;
+    }
+    Ok(())
 }
 
 fn is_active(state: &AbsState, task: usize) -> bool {
@@ -127,6 +147,25 @@ fn is_active(state: &AbsState, task: usize) -> bool {
 
 // ---- Columns
 
+fn name_modes(
+    alloc: Global,
+    columns: &mut Vec<ColumnName>,
+    plant: &Plant,
+    task: usize,
+) -> Result<()> {
+    for mode in 0..plant.system.modes.len() {
+        if starts_active(alloc, plant, mode, task)? {
+            columns.push(ColumnName::Mode(mode))?;
+        }
+    }
+    Ok(())
+}
+
+fn starts_active(alloc: Global, plant: &Plant, mode: usize, task: usize) -> Result<bool> {
+    let state = initial(alloc, plant, mode)?;
+    Ok(is_active(&state, task))
+}
+
 fn name_starts(
     alloc: Global,
     columns: &mut Vec<ColumnName>,
@@ -134,22 +173,34 @@ fn name_starts(
     states: &[AbsState],
     task: usize,
 ) -> Result<()> {
-    for mode in 0..plant.system.modes.len() {
-        if is_active(&initial(alloc, plant, mode)?, task) {
-            columns.push(ColumnName::Mode(mode))?;
-        }
-    }
     for (state, from) in states.iter().enumerate() {
-        let Ok(moves) = successors(alloc, plant, from) else {
-            return Err(anyhow!("a state has no moves"));
-        };
-        for (place, going) in moves.as_slice().iter().enumerate() {
-            if activates(plant, from, going, task) {
-                columns.push(ColumnName::Start { state, place })?;
-            }
+        let moves = moves_of(alloc, plant, from)?;
+        name_starts_from(columns, plant, from, state, moves.as_slice(), task)?;
+    }
+    Ok(())
+}
+
+fn name_starts_from(
+    columns: &mut Vec<ColumnName>,
+    plant: &Plant,
+    from: &AbsState,
+    state: usize,
+    moves: &[Move],
+    task: usize,
+) -> Result<()> {
+    for (place, going) in moves.iter().enumerate() {
+        if activates(plant, from, going, task) {
+            columns.push(ColumnName::Start { state, place })?;
         }
     }
     Ok(())
+}
+
+fn moves_of(alloc: Global, plant: &Plant, from: &AbsState) -> Result<Moves> {
+    match successors(alloc, plant, from) {
+        Ok(moves) => Ok(moves),
+        Err(_) => Err(anyhow!("a state has no moves")),
+    }
 }
 
 /// Whether the move makes the task active, by an activation or by a chain of the task to itself.
@@ -190,13 +241,16 @@ fn name_moves(
 ) -> Result<()> {
     for (state, from) in states.iter().enumerate() {
         if is_active(from, task) {
-            let Ok(moves) = successors(alloc, plant, from) else {
-                return Err(anyhow!("a state has no moves"));
-            };
-            for place in 0..moves.len() {
-                columns.push(ColumnName::Move { state, place })?;
-            }
+            let count = moves_of(alloc, plant, from)?.len();
+            name_moves_from(columns, state, count)?;
         }
+    }
+    Ok(())
+}
+
+fn name_moves_from(columns: &mut Vec<ColumnName>, state: usize, count: usize) -> Result<()> {
+    for place in 0..count {
+        columns.push(ColumnName::Move { state, place })?;
     }
     Ok(())
 }
@@ -270,24 +324,43 @@ fn row_names(
     count: usize,
 ) -> Result<Vec<RowName>> {
     let mut rows = Vec::new(alloc);
+    name_states(&mut rows, states, task)?;
+    name_code_rows(&mut rows, plant, task, standing)?;
+    let sources = source_names(alloc, plant)?;
+    let loops = count.saturating_sub(rows.len().saturating_add(sources.len()));
+    name_loops(&mut rows, loops)?;
+    rows.extend_from_slice(sources.as_slice())?;
+    Ok(rows)
+}
+
+fn name_states(rows: &mut Vec<RowName>, states: &[AbsState], task: usize) -> Result<()> {
     rows.push(RowName::First)?;
     for (place, state) in states.iter().enumerate() {
         if is_active(state, task) {
             rows.push(RowName::State(place))?;
         }
     }
+    Ok(())
+}
+
+fn name_code_rows(
+    rows: &mut Vec<RowName>,
+    plant: &Plant,
+    task: usize,
+    standing: &[usize],
+) -> Result<()> {
     for node in 0..plant.flow.nodes() {
         rows.push(RowName::Node(node))?;
     }
-    name_standing(&mut rows, plant, standing)?;
-    name_begun(&mut rows, plant, task)?;
-    let sources = source_names(alloc, plant)?;
-    let loops = count.saturating_sub(rows.len().saturating_add(sources.len()));
-    for place in 0..loops {
+    name_standing(rows, plant, standing)?;
+    name_begun(rows, plant, task)
+}
+
+fn name_loops(rows: &mut Vec<RowName>, count: usize) -> Result<()> {
+    for place in 0..count {
         rows.push(RowName::Loop(place))?;
     }
-    rows.extend_from_slice(sources.as_slice())?;
-    Ok(rows)
+    Ok(())
 }
 
 fn name_standing(rows: &mut Vec<RowName>, plant: &Plant, standing: &[usize]) -> Result<()> {

@@ -1,4 +1,4 @@
-use Rattle.std.proofs.Common.{ℕ, List, Result, Err, subst}
+use Rattle.std.proofs.Common.{ℕ, List, Err, subst}
 use Rattle.listed.specs.declared.fault.Fault.{Fault}
 use Rattle.json_fields.specs.Files.{Answers}
 use Rattle.timing_file.specs.declared.fault.TimingKind.{TimingKind}

@@ -1,0 +1,13 @@
+use Rattle.std.proofs.Common.{ℕ, List, inl, subst}
+use Rattle.command_steps.specs.Steps.{IsCall}
+use Rattle.bound_commands.specs.Check.{CheckOn}
+use Rattle.bound_commands.proofs.judging.checked.Goals as goal
+
+pub returns : goal.returns
+returns g c =
+    let calls = IsCall g.F.Files.outside g.F.Files.reads in
+    let analysed = c.in_ok-analysed.analysed in
+    let next = subst
+    (λ (name : List ℕ). CheckOn calls c.args.certificate.now name analysed c.read_subject.new.files c.check_on.result c.check_on.new.files)
+    c.name.ensures c.check_on.ensures in
+    inl (analysed, c.read_subject.new.files, c.in_ok-analysed.ensures, next)
