@@ -9,6 +9,7 @@ use Rattle.wcet_atomic_blocks.specs.Plants.{PlantData}
 use Rattle.abstract_sched.specs.declared.states.AbsState.{AbsState}
 use Rattle.scheduler_moves.specs.Moves.{initial}
 use Rattle.row_build.specs.Columns
+use Rattle.row_build.specs.Families
 use Rattle.row_build.specs.Rows.{rows_of}
 use Rattle.row_build.proofs.Growing.{numbers_more}
 use Rattle.split_search.specs.declared.moves.TaskMove.{TaskMove}
@@ -141,3 +142,14 @@ take_columns-exist plant states task =
     let columns = Columns.columns plant states task in
     let count : 0 + length columns ≡ length (rows_of plant states task).costs = zero-add (length columns) ∙ sym (length-map columns (λ (column : Columns.Column). pos (Columns.cost plant column))) in
     subst (λ (n : ℕ). All (λ column. column < n) (take_columns plant states task)) count (places-within is_take 0 columns)
+
+-- ---- There is a row
+
+first_row : {A : Type 0} (x : A) (xs : List A) → 0 < length (x ∷ xs)
+first_row x xs = omega arith
+
+pub rows_exist : (plant : PlantData) (states : List AbsState) (task : ℕ) → 0 < length (rows_of plant states task).rows
+rows_exist plant states task =
+    let columns = Columns.columns plant states task in
+    let others = Families.leaving plant states task ++ (Families.passing plant ++ (Families.standing plant states task ++ (Families.beginning plant task ++ (Families.going_round plant ++ Families.arriving plant)))) in
+    first_row (map Families.one_start.factor columns) (map (λ (row : Families.Row). map row.factor columns) others)

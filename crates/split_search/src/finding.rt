@@ -4,6 +4,7 @@ ghost use Rattle.std.specs.Prelude.{◌≡◌, ◌≤◌, true, IfErr, IfOk};
 ghost use Rattle.listed.specs.Lists.{differ};
 ghost use Rattle.whole_rows.specs.Duals.{HasSmallSizes};
 ghost use Rattle.split_trees.specs.Good.{IsGoodTree};
+ghost use Rattle.split_trees.specs.Lawful.{IsLawfulTree};
 ghost use Rattle.cut_search.specs.Answers.{IsRayOf, SaysSearch};
 ghost use Rattle.abstract_sched.specs.States.{same_state};
 ghost use Rattle.scheduler_moves.specs.Closed.{IsClosed};
@@ -43,6 +44,7 @@ pub fn find_split(
         (tree_of result) }
     ensures parts { IfOk result (IsFor task bound states.now) }
     ensures good { IfOk result (IsGoodSplit plant.now task) }
+    ensures lawful { IfOk result (λ cert. IsLawfulTree cert.tree) }
     ensures ray { IfErr result (IsRayOf (rows_of plant.now states.now task)) }
 {
     match found_tree(alloc, plant, states.as_slice(), task, bound, cuts) {
@@ -65,6 +67,7 @@ fn found_tree(
     requires few { cuts ≤ 100 }
     ensures outcome { SaysSearch cuts (search_of plant.now states.now task bound cuts) result }
     ensures good { IfOk result (IsGoodTree (rows_of plant.now states.now task) bound) }
+    ensures lawful { IfOk result IsLawfulTree }
     ensures ray { IfErr result (IsRayOf (rows_of plant.now states.now task)) }
 {
     let rows = small_rows(alloc, plant, states, task)?;
