@@ -1,1 +1,13 @@
 pub mod Drawing
+pub mod StateLists
+pub mod Ranges
+pub mod Below
+pub mod AddressTexts
+pub mod TimingText
+pub mod Sets
+pub mod Spelling
+pub mod ObjectNames
+pub mod TreeText
+pub mod SystemNames
+pub mod SystemOf
+pub mod NoFault

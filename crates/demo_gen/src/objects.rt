@@ -110,7 +110,8 @@ fn put_action(alloc: Global, to: &mut Attributes, task: usize) -> Result<(), Mem
     put_word(alloc, to, 1, b"COUNTER", b"C", false)?;
     put_word(alloc, to, 1, b"ACTION", b"ACTIVATETASK", true)?;
     let value = Value::Name(task_name(alloc, task)?);
-    put(alloc, to, 2, b"TASK", value, false)
+    put(alloc, to, 2, b"TASK", value, false)?;
+    Ok(())
 }
 
 /// Adds when an alarm starts: in the mode, and then every `cycle` ticks.
@@ -120,7 +121,8 @@ fn put_start(alloc: Global, to: &mut Attributes, cycle: u32) -> Result<(), Memor
     put(alloc, to, 1, b"AUTOSTART", Value::Bool(true), true)?;
     put_number(alloc, to, 2, b"ALARMTIME", 0)?;
     put_number(alloc, to, 2, b"CYCLETIME", u64::from(cycle))?;
-    put_word(alloc, to, 2, b"APPMODE", b"Main", false)
+    put_word(alloc, to, 2, b"APPMODE", b"Main", false)?;
+    Ok(())
 }
 
 /// Adds an attribute whose value is a word.

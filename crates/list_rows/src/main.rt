@@ -8,13 +8,10 @@ mod forms;
 mod listing;
 mod names;
 
-ghost use Rattle.std.specs.Prelude.{◌≡◌, ◌<◌, true, IfOk, length};
+ghost use Rattle.std.specs.Prelude.{◌≡◌, true, IfOk};
 ghost use Rattle.listed.specs.Lists.{differ};
 ghost use Rattle.whole_rows.specs.Duals.{HasSmallSizes};
 ghost use Rattle.row_squeeze.specs.Links.{AreLinks};
-ghost use Rattle.oil_grammar.specs.Grammar.{IsWellFormed};
-ghost use Rattle.oil_model.specs.System.{IsLawful as IsLawfulSystem};
-ghost use Rattle.timing_file.specs.Lawful.{IsLawful as IsLawfulTiming};
 ghost use Rattle.abstract_sched.specs.States.{same_state};
 
 use crate::forms::{write_json, write_lp};
@@ -23,24 +20,20 @@ use crate::names::{Names, name_all};
 use abstract_sched::States;
 use anyhow::{Result, anyhow};
 use bound_solver::{LinkedRows, linked_rows};
-use certificate::read_states;
-use elf_image::{Image, read_elf};
-use oil_grammar::{Tree, read_oil};
-use oil_model::{System, model, task_named};
+use oil_model::task_named;
 use row_squeeze::{Links, Squeezed, squeeze};
-use scheduler_moves::{Closure, closed, rules};
+use scheduler_moves::{Closure, closed};
 use std::alloc::Global;
 use std::io::{BufWriter, Write};
-use std::{env, fs, io};
-use timing_file::{Timing, read_timing};
-use wcet_atomic_blocks::{Plant, plant};
+use std::{env, io};
+use tool_files::{PlantNames, plant_in, states_in, word};
+use wcet_atomic_blocks::Plant;
 
-/// The words of a run: the files by name, and the task.
+const WORDS: &str = "OIL ELF TIMING TASK STATES [full] [json]";
+
+/// The words of a run behind the three files.
 #[derive(Drop)]
-struct Named {
-    oil: String,
-    elf: String,
-    timing: String,
+struct Wanted {
     task: String,
     states: String,
     /// The full rows are wanted.
@@ -51,121 +44,30 @@ struct Named {
 
 fn main(rt: HostRuntime) -> Result<()> {
     let mut words = env::args(&rt)?.skip(1);
-    let mut named = Named {
-        oil: word(words.next())?,
-        elf: word(words.next())?,
-        timing: word(words.next())?,
-        task: word(words.next())?,
-        states: word(words.next())?,
+    let names = PlantNames {
+        oil: word(words.next(), WORDS)?,
+        elf: word(words.next(), WORDS)?,
+        timing: word(words.next(), WORDS)?,
+    };
+    let mut wanted = Wanted {
+        task: word(words.next(), WORDS)?,
+        states: word(words.next(), WORDS)?,
         full: false,
         json: false,
     };
     for form in words {
         match form.as_str() {
-            "full" => named.full = true,
-            "json" => named.json = true,
-            _ => return Err(anyhow!("behind the files stand `full` and `json` alone")),
+            "full" => wanted.full = true,
+            "json" => wanted.json = true,
+            _ => return Err(anyhow!("the words are {WORDS}")),
         }
     }
-    answer(&rt, &named)
+    answer(&rt, &names, &wanted)
 }
 
-fn answer(rt: &HostRuntime, named: &Named) -> Result<()> {
-    let plant = plant_of(rt, named)?;
-    report(rt, &plant, named)
-}
-
-/// A word that has to be there.
-fn word(given: Option<String>) -> Result<String> {
-    match given {
-        Some(word) => Ok(word),
-        None => Err(anyhow!("the words are OIL ELF TIMING TASK STATES")),
-    }
-}
-
-/// The plant of the three files.
-fn plant_of(rt: &HostRuntime, named: &Named) -> Result<Plant> {
-    let system = system_in(rt, named.oil.as_str())?;
-    plant_with(rt, system, named)
-}
-
-fn plant_with(rt: &HostRuntime, system: System, named: &Named) -> Result<Plant>
-    requires { IsLawfulSystem system }
-{
-    let image = image_in(rt.alloc(), &fs::read(rt, named.elf.as_str())?)?;
-    plant_on(rt, system, image, named)
-}
-
-fn plant_on(rt: &HostRuntime, system: System, image: Image, named: &Named) -> Result<Plant>
-    requires { IsLawfulSystem system }
-{
-    let timing = timing_in(rt.alloc(), &fs::read(rt, named.timing.as_str())?)?;
-    planted(rt.alloc(), system, image, timing)
-}
-
-fn system_in(rt: &HostRuntime, path: &str) -> Result<System>
-    ensures { IfOk result IsLawfulSystem }
-{
-    let tree = tree_in(rt.alloc(), &fs::read(rt, path)?)?;
-    system_of(rt.alloc(), &tree)
-}
-
-fn tree_in(alloc: Global, bytes: &[u8]) -> Result<Tree>
-    ensures { IfOk result IsWellFormed }
-{
-    match read_oil(alloc, bytes) {
-        Ok(tree) => Ok(tree),
-        Err(_) => Err(anyhow!("no OIL file")),
-    }
-}
-
-fn system_of(alloc: Global, tree: &Tree) -> Result<System>
-    requires { IsWellFormed tree.now }
-    ensures { IfOk result IsLawfulSystem }
-{
-    match model(alloc, tree) {
-        Ok(system) => Ok(system),
-        Err(_) => Err(anyhow!("no system")),
-    }
-}
-
-fn image_in(alloc: Global, bytes: &[u8]) -> Result<Image> {
-    match read_elf(alloc, bytes) {
-        Ok(image) => Ok(image),
-        Err(_) => Err(anyhow!("no image")),
-    }
-}
-
-fn timing_in(alloc: Global, bytes: &[u8]) -> Result<Timing>
-    ensures { IfOk result IsLawfulTiming }
-{
-    match read_timing(alloc, bytes) {
-        Ok(timing) => Ok(timing),
-        Err(_) => Err(anyhow!("no timing")),
-    }
-}
-
-fn planted(alloc: Global, system: System, image: Image, timing: Timing) -> Result<Plant>
-    requires system { IsLawfulSystem system }
-    requires timing { IsLawfulTiming timing }
-{
-    match plant(alloc, image, system, timing) {
-        Ok(plant) => Ok(plant),
-        Err(_) => Err(anyhow!("the code has a fault")),
-    }
-}
-
-/// The listed states, each once.
-fn states_in(alloc: Global, plant: &Plant, bytes: &[u8]) -> Result<States>
-    ensures { IfOk result (λ states. differ same_state states ≡ true) }
-{
-    let Ok(rules) = rules(alloc, plant) else {
-        return Err(anyhow!("out of memory"));
-    };
-    match read_states(alloc, &rules, bytes) {
-        Ok(states) => Ok(states),
-        Err(_) => Err(anyhow!("no list of states")),
-    }
+fn answer(rt: &HostRuntime, names: &PlantNames, wanted: &Wanted) -> Result<()> {
+    let plant = plant_in(rt, names)?;
+    report(rt, &plant, wanted)
 }
 
 /// The rows of the task with their links.
@@ -182,27 +84,16 @@ fn linked(alloc: Global, plant: &Plant, states: &States, task: usize) -> Result<
 }
 
 /// Writes the rows of the task over the states in the file.
-fn report(rt: &HostRuntime, plant: &Plant, named: &Named) -> Result<()> {
-    match task_named(&plant.system, named.task.as_bytes()) {
-        Some(task) => report_task(rt, plant, task, named),
+fn report(rt: &HostRuntime, plant: &Plant, wanted: &Wanted) -> Result<()> {
+    match task_named(&plant.system, wanted.task.as_bytes()) {
+        Some(task) => report_task(rt, plant, task, wanted),
         None => Err(anyhow!("no such task")),
     }
 }
 
-fn report_task(rt: &HostRuntime, plant: &Plant, task: usize, named: &Named) -> Result<()> {
-    let bytes = fs::read(rt, named.states.as_str())?;
-    report_states(rt, plant, task, &bytes, named)
-}
-
-fn report_states(
-    rt: &HostRuntime,
-    plant: &Plant,
-    task: usize,
-    bytes: &[u8],
-    named: &Named,
-) -> Result<()> {
-    let states = states_in(rt.alloc(), plant, bytes)?;
-    report_over(rt, plant, task, &states, named)
+fn report_task(rt: &HostRuntime, plant: &Plant, task: usize, wanted: &Wanted) -> Result<()> {
+    let states = states_in(rt, plant, wanted.states.as_str())?;
+    report_over(rt, plant, task, &states, wanted)
 }
 
 fn report_over(
@@ -210,12 +101,12 @@ fn report_over(
     plant: &Plant,
     task: usize,
     states: &States,
-    named: &Named,
+    wanted: &Wanted,
 ) -> Result<()>
     requires { differ same_state states.now ≡ true }
 {
     let linked = linked(rt.alloc(), plant, states, task)?;
-    report_rows(rt, plant, task, states, &linked, named)
+    report_rows(rt, plant, task, states, &linked, wanted)
 }
 
 fn report_rows(
@@ -224,27 +115,27 @@ fn report_rows(
     task: usize,
     states: &States,
     linked: &LinkedRows,
-    named: &Named,
+    wanted: &Wanted,
 ) -> Result<()>
     requires small { HasSmallSizes linked.now.rows }
     requires join { AreLinks linked.now.rows linked.now.links }
 {
     let names = name_all(rt.alloc(), plant, states.as_slice(), task, &linked.rows)?;
-    print(rt, linked, &names, named)
+    print(rt, linked, &names, wanted)
 }
 
 /// Prints the rows, full or squeezed.
-fn print(rt: &HostRuntime, linked: &LinkedRows, names: &Names, named: &Named) -> Result<()>
+fn print(rt: &HostRuntime, linked: &LinkedRows, names: &Names, wanted: &Wanted) -> Result<()>
     requires small { HasSmallSizes linked.now.rows }
     requires join { AreLinks linked.now.rows linked.now.links }
 {
-    if named.full {
+    if wanted.full {
         let (columns, rows) = (names.columns.as_slice(), names.rows.as_slice());
         let listing = listed_rows(rt.alloc(), &linked.rows, columns, rows)?;
-        print_listing(rt, &listing, Some(&linked.links), named)
+        print_listing(rt, &listing, Some(&linked.links), wanted)
     } else {
         let listing = squeezed(rt.alloc(), linked, names)?;
-        print_listing(rt, &listing, None, named)
+        print_listing(rt, &listing, None, wanted)
     }
 }
 
@@ -252,10 +143,10 @@ fn print_listing(
     rt: &HostRuntime,
     listing: &Listing,
     links: Option<&Links>,
-    named: &Named,
+    wanted: &Wanted,
 ) -> Result<()> {
     let mut out = BufWriter::new(rt.alloc(), io::writer(rt))?;
-    write(&mut out, listing, links, named)?;
+    write(&mut out, listing, links, wanted)?;
     Ok(out.flush()?)
 }
 
@@ -278,12 +169,12 @@ fn write(
     out: &mut impl Write,
     listing: &Listing,
     links: Option<&Links>,
-    named: &Named,
+    wanted: &Wanted,
 ) -> io::Result<()> {
-    if named.json {
+    if wanted.json {
         return write_json(out, listing, links);
     }
-    let form = if named.full { "full" } else { "squeezed" };
-    writeln!(out, "\\ {form} rows of the task {}", named.task)?;
+    let form = if wanted.full { "full" } else { "squeezed" };
+    writeln!(out, "\\ {form} rows of the task {}", wanted.task)?;
     write_lp(out, listing)
 }

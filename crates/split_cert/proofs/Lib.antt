@@ -1,0 +1,5 @@
+pub mod Bounding
+pub mod Branches
+pub mod Limits
+pub mod Parts
+pub mod Written

@@ -13,6 +13,7 @@ use Rattle.certificate.specs.declared.fault.CertKind.TheVariants.{Shape, Range, 
 use Rattle.certificate.specs.Certificate.{multiplier_in}
 use Rattle.certificate.specs.States.{states_of}
 use Rattle.split_cert.specs.declared.cert.SplitCert.{SplitCert}
+use Rattle.split_cert.specs.declared.read.Place.{Place}
 use Rattle.split_cert.specs.Form.{split_parts}
 use Rattle.split_trees.specs.Tree.{Tree, Leaf, Cut, height}
 
@@ -24,13 +25,12 @@ leaf_in d ds = do
   multipliers ← all_of multiplier_in members
   if denominator == 0 then Err Range else Ok (Leaf denominator multipliers)
 
--- a whole number below 2^32
-abbrev pub column_in : Data → Result ℕ CertKind
-column_in d = ok_or (whole_in 0 (2 ^ 32 - 1) d) Range
-
--- a whole number below 2^31
-abbrev pub k_in : Data → Result ℕ CertKind
-k_in d = ok_or (whole_in 0 (2 ^ 31 - 1) d) Range
+-- the column is a whole number below 2^32, and k one below 2^31
+abbrev pub place_in : Data → Data → Result Place CertKind
+place_in column k = do
+  j ← ok_or (whole_in 0 (2 ^ 32 - 1) column) Range
+  most ← ok_or (whole_in 0 (2 ^ 31 - 1) k) Range
+  Ok (record { column = j; k = most })
 
 -- the tree that a value of its form is, however deep its cuts nest
 unfoldable mutual
@@ -39,17 +39,16 @@ unfoldable mutual
   tree_in (boolean b) = Err Shape
   tree_in (number n) = Err Shape
   tree_in (string s) = Err Shape
-  tree_in (array members) = branch_in members
-  tree_in (object members) = Err Shape
+  tree_in (array items) = branch_in items
+  tree_in (object fields) = Err Shape
 
   pub branch_in : Items → Result Tree CertKind
   branch_in (item word (item denominator (item multipliers no_items))) = leaf_in denominator multipliers
   branch_in (item word (item column (item k (item low (item high no_items))))) = do
-    j ← column_in column
-    most ← k_in k
+    place ← place_in column k
     below ← tree_in low
     above ← tree_in high
-    Ok (Cut j most below above)
+    Ok (Cut place.column place.k below above)
   branch_in _ = Err Shape
 
 -- its cuts nest at most 100 deep

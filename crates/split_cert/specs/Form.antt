@@ -1,15 +1,15 @@
 -- The form of split certificates in JSON: types of values, keys of objects and lengths of lists. A tree is a list, either
 -- `["leaf", denominator, [multipliers]]` or `["cut", column, k, low, high]`: denominators and multipliers are texts, the
 -- column and k are numbers, low and high are trees.
-use Rattle.std.specs.Prelude.{ℕ, List, [], ◌∷◌, Bool, false, ◌&&◌, bytes_eq, codes, if◌then◌else◌, Option, Some, None, option_map, unwrap_or, ◌≡◌, true, refl}
+use Rattle.std.specs.Prelude.{ℕ, List, [], ◌∷◌, Bool, false, ◌&&◌, bytes_eq, codes, if◌then◌else◌, Option, Some, None, option_map, unwrap_or}
 use Rattle.std.specs.List.{list_all}
 use Rattle.listed.specs.Steps.Options.{◌>>=◌}
-use Rattle.serde_json.specs.Data.{Data, null, boolean, number, string, array, object, Items, no_items, item, unsigned}
+use Rattle.serde_json.specs.Data.{Data, null, boolean, number, string, array, object, Items, no_items, item}
 use Rattle.serde_json.specs.Find.{get, as_str}
 use Rattle.json_fields.specs.Forms.{is_number, is_text}
 use Rattle.json_fields.specs.Lists.{list_in}
 use Rattle.json_fields.specs.Objects.{has_exactly, text_at, list_at}
-use Rattle.certificate.specs.Form.{is_list_with, is_state}
+use Rattle.certificate.specs.Form.{is_state}
 
 -- the text is this word
 abbrev pub is_word : List ℕ → Data → Bool
@@ -19,20 +19,24 @@ is_word word d = unwrap_or (option_map (bytes_eq word) (as_str d)) false
 abbrev pub are_texts : Data → Bool
 are_texts d = unwrap_or (option_map (list_all is_text) (list_in d)) false
 
+abbrev pub is_leaf : Data → Data → Data → Bool
+is_leaf word denominator multipliers = is_word (codes "leaf") word && is_text denominator && are_texts multipliers
+
+abbrev pub is_cut : Data → Data → Data → Bool
+is_cut word column k = is_word (codes "cut") word && is_number column && is_number k
+
 abbrev mutual
   pub is_tree : Data → Bool
   is_tree null = false
   is_tree (boolean b) = false
   is_tree (number n) = false
   is_tree (string s) = false
-  is_tree (array members) = is_branch members
-  is_tree (object members) = false
+  is_tree (array items) = is_branch items
+  is_tree (object fields) = false
 
   pub is_branch : Items → Bool
-  is_branch (item word (item denominator (item multipliers no_items))) =
-      is_word (codes "leaf") word && is_text denominator && are_texts multipliers
-  is_branch (item word (item column (item k (item low (item high no_items))))) =
-      is_word (codes "cut") word && is_number column && is_number k && is_tree low && is_tree high
+  is_branch (item word (item denominator (item multipliers no_items))) = is_leaf word denominator multipliers
+  is_branch (item word (item column (item k (item low (item high no_items))))) = is_cut word column k && is_tree low && is_tree high
   is_branch _ = false
 
 -- ---- certificates

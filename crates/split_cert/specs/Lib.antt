@@ -4,3 +4,4 @@ pub mod Form
 pub mod Certificate
 pub mod Writing
 pub mod Laws
+pub mod Working

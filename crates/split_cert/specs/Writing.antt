@@ -8,9 +8,12 @@ use Rattle.certificate.specs.Writing.{number_data, digits_data, list_data, state
 use Rattle.split_cert.specs.declared.cert.SplitCert.{SplitCert}
 use Rattle.split_trees.specs.Tree.{Tree, Leaf, Cut}
 
-abbrev pub tree_data : Tree → Data
-tree_data (Leaf denominator multipliers) =
+abbrev pub leaf_data : ℕ → List ℕ → Data
+leaf_data denominator multipliers =
     list_data (string (codes "leaf") ∷ digits_data denominator ∷ list_data (map digits_data multipliers) ∷ [])
+
+abbrev pub tree_data : Tree → Data
+tree_data (Leaf denominator multipliers) = leaf_data denominator multipliers
 tree_data (Cut column k low high) =
     list_data (string (codes "cut") ∷ number_data column ∷ number_data k ∷ tree_data low ∷ tree_data high ∷ [])
 

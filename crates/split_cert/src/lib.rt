@@ -5,7 +5,16 @@
 #![tactic(auto)]
 
 mod cert;
+mod checking;
+mod form;
+mod laws;
+mod read;
 mod verdict;
+mod write;
 
 pub use cert::SplitCert;
+pub use checking::check_split;
+pub use laws::good_splits_bound_activations;
+pub use read::read_split;
 pub use verdict::{SplitVerdict, SplitWhy};
+pub use write::write_split;

@@ -1,5 +1,5 @@
 -- Which trees of cuts are within their limits.
-use Rattle.std.specs.Prelude.{ℕ, ◌^◌, ◌<◌, ◌≤◌}
+use Rattle.std.specs.Prelude.{◌^◌, ◌<◌, ◌≤◌}
 use Rattle.std.specs.List.{AllByRecursion}
 use Rattle.split_trees.specs.Tree.{Tree, Leaf, Cut, height}
 

@@ -1,0 +1,14 @@
+pub mod Arithmetic
+pub mod Bounding
+pub mod Uniqueness
+pub mod Fronts
+pub mod Effects
+pub mod Knowing
+pub mod Going
+pub mod Turning
+pub mod Serving
+pub mod Sureness
+pub mod Running
+pub mod FoundTimings
+pub mod FoundGraphs
+pub mod Keeping

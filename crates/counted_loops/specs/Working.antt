@@ -1,0 +1,4 @@
+pub mod Distances
+pub mod Writers
+pub mod Counting
+pub mod Entering

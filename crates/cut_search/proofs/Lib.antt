@@ -1,0 +1,13 @@
+pub mod Covering
+pub mod GoodLeaves
+pub mod LawfulParts
+pub mod LeafNumbers
+pub mod LeafParts
+pub mod NodeAnswers
+pub mod NodeRows
+pub mod Order
+pub mod Parts
+pub mod Products
+pub mod Rays
+pub mod Roots
+pub mod SearchLaws

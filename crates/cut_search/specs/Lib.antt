@@ -1,0 +1,5 @@
+pub mod Nodes
+pub mod Leaves
+pub mod Search
+pub mod Answers
+pub mod Working

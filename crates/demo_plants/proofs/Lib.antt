@@ -1,0 +1,10 @@
+pub mod Words
+pub mod CodeOf
+pub mod NodesOf
+pub mod EntriesOf
+pub mod Faultless
+pub mod Plant
+pub mod Listing
+pub mod Simple
+pub mod Closing
+pub mod Given

@@ -1,0 +1,9 @@
+use Rattle.std.proofs.Common.{◌+◌, ◌-◌}
+use Rattle.state_search.specs.Searching.{IsSearch}
+use Rattle.list_states.proofs.searched.Given as goal
+
+abbrev pub invariant-loop-search : goal.invariant-loop-search
+invariant-loop-search l = IsSearch l.plant l.search
+
+abbrev pub decreases-loop-search : goal.decreases-loop-search
+decreases-loop-search l = l.limit + 1 - l.search.done

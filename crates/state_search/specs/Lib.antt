@@ -1,0 +1,4 @@
+pub mod Reached
+pub mod Least
+pub mod Searching
+pub mod Working

@@ -1,0 +1,10 @@
+mod Forms
+mod Naming
+mod Laws
+mod NameTexts
+mod NamesBack
+mod Written
+mod Arriving
+mod Tabling
+mod Following
+mod NodePlaces

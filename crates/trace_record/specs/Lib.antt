@@ -1,0 +1,5 @@
+pub mod Recording
+pub mod Recorded
+pub mod Fitting
+pub mod Cases
+pub mod Working

@@ -1,0 +1,23 @@
+# How PROGRAM is made of OBJECTS: by Debian's gcc-riscv64-unknown-elf, or by clang and ld.lld with
+# `make COMPILER=clang`. docs/GUIDE.md says what each flag is for.
+here := $(dir $(lastword $(MAKEFILE_LIST)))
+FLAGS = -march=rv32im -mabi=ilp32 -ffreestanding -O2 -fno-jump-tables -fno-optimize-sibling-calls \
+	-Wall -Wextra -I $(here)
+ifeq ($(COMPILER),clang)
+COMPILE = clang --target=riscv32-unknown-elf -mno-relax $(FLAGS)
+LINK = ld.lld --no-relax
+else
+COMPILE = riscv64-unknown-elf-gcc -msmall-data-limit=0 -fno-toplevel-reorder $(FLAGS)
+LINK = riscv64-unknown-elf-ld -m elf32lriscv --no-relax
+endif
+
+$(PROGRAM): $(OBJECTS) $(here)link.ld
+	$(LINK) -T $(here)link.ld $(OBJECTS) -o $@
+
+%.o: %.c $(here)osek.h $(HEADERS)
+	$(COMPILE) -c $< -o $@
+
+clean:
+	rm -f $(OBJECTS)
+
+.PHONY: clean
