@@ -25,10 +25,8 @@ honest outside reads (Some (command.ShowOil oil)) = show_oil_honest outside read
 honest outside reads (Some (command.ShowCode oil elf timing)) = show_code_honest outside reads oil elf timing
 honest outside reads (Some (command.Replay oil elf timing schedule)) = replay_honest outside reads oil elf timing schedule
 honest outside reads (Some (command.Loops oil elf timing task states)) = loops_honest outside reads oil elf timing task states
-honest outside reads (Some (command.SplitFind oil elf timing task states bound cuts)) = judged outside (files_of (Some (command.SplitFind oil elf timing task states bound cuts))) (λ given. given ≡ Err words_refusal)
 honest outside reads (Some (command.SplitCheck oil elf timing task certificate)) =
     split_check_honest outside reads oil elf timing task certificate
 honest outside reads (Some (command.TraceRecord oil elf timing schedule)) = trace_record_honest outside reads oil elf timing schedule
 honest outside reads (Some (command.TraceJudge oil elf timing task certificate trace)) =
     trace_judge_honest outside reads oil elf timing task certificate trace
-honest outside reads (Some (command.Demo seed tasks)) = judged outside (files_of (Some (command.Demo seed tasks))) (λ given. given ≡ Err words_refusal)

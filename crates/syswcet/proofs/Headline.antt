@@ -46,14 +46,12 @@ truly outside reads start (Some (command.Replay oil elf timing schedule)) text a
     replay_says outside reads start oil elf timing schedule text after steps
 truly outside reads start (Some (command.Loops oil elf timing task states)) text after steps =
     loops_says outside reads start oil elf timing task states text after steps
-truly outside reads start (Some (command.SplitFind oil elf timing task states bound cuts)) text after steps = cc (steps.1)
 truly outside reads start (Some (command.SplitCheck oil elf timing task certificate)) text after steps =
     split_check_says outside reads start oil elf timing task certificate text after steps
 truly outside reads start (Some (command.TraceRecord oil elf timing schedule)) text after steps =
     trace_record_says outside reads start oil elf timing schedule text after steps
 truly outside reads start (Some (command.TraceJudge oil elf timing task certificate trace)) text after steps =
     trace_judge_says outside reads start oil elf timing task certificate trace text after steps
-truly outside reads start (Some (command.Demo seed tasks)) text after steps = cc (steps.1)
 
 stepped : {F : Type 0} (calls : Calls F) (command : Option Command) (start : F) (answered : Result (List ℕ) Halt) (text : List ℕ) (after : F)
     → answered ≡ Ok text

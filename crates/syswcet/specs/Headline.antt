@@ -34,14 +34,12 @@ SaysTruly Bytes (Some (command.ShowCode oil elf timing)) text = OfSystem Bytes o
 SaysTruly Bytes (Some (command.Replay oil elf timing schedule)) text =
     (s : List ℕ) × Bytes schedule s × OfSystem Bytes oil elf timing (ReplaysSchedule s text)
 SaysTruly Bytes (Some (command.Loops oil elf timing task states)) text = OfSystem Bytes oil elf timing (BoundsByCode task text)
-SaysTruly Bytes (Some (command.SplitFind oil elf timing task states bound cuts)) text = ⊥
 SaysTruly Bytes (Some (command.SplitCheck oil elf timing task certificate)) text =
     (bound : ℕ) × (text ≡ yes_text task bound) × BoundsSubject Bytes (Named oil elf timing task) bound
 SaysTruly Bytes (Some (command.TraceRecord oil elf timing schedule)) text =
     (s : List ℕ) × Bytes schedule s × OfSystem Bytes oil elf timing (RecordsRun s text)
 SaysTruly Bytes (Some (command.TraceJudge oil elf timing task certificate trace)) text =
     (b : List ℕ) × Bytes trace b × OfSystem Bytes oil elf timing (JudgesFit task b text)
-SaysTruly Bytes (Some (command.Demo seed tasks)) text = ⊥
 
 -- A text was written whole, and it says what the command is for.
 abbrev pub Means : {F : Type 0} → (F → FilesOutside) → Calls F → F → Option Command → SinkOutside → SinkOutside → Type 0

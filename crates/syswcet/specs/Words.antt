@@ -6,7 +6,7 @@ use Rattle.std.specs.Option.{option_map}
 use Rattle.std.specs.Str.Parse.{digits_value}
 use Rattle.bound_commands.specs.Solving.{usual_pivots}
 use Rattle.syswcet.specs.declared.words.Command.{Command}
-use Rattle.syswcet.specs.declared.words.Command.TheVariants.{Check, Bound, Certify, All, ShowOil, ShowCode, Replay, Loops, SplitFind, SplitCheck, TraceRecord, TraceJudge, Demo}
+use Rattle.syswcet.specs.declared.words.Command.TheVariants.{Check, Bound, Certify, All, ShowOil, ShowCode, Replay, Loops, SplitCheck, TraceRecord, TraceJudge}
 use Rattle.inputs.specs.declared.subjects.Subject.{Subject}
 use Rattle.inputs.specs.declared.subjects.Subject.TheVariants.{Lone, Named}
 
@@ -108,39 +108,6 @@ trace_record words = TraceRecord (word words 2) (word words 3) (word words 4) (w
 abbrev pub trace_judge : List (List ℕ) → Command
 trace_judge words = TraceJudge (word words 2) (word words 3) (word words 4) (word words 5) (word words 6) (word words 7)
 
--- ---- a search of a certificate of cuts: `--cuts C` may stand behind the bound, and nothing else
-
--- the limit on cuts where the words name none
-abbrev pub usual_cuts : ℕ
-usual_cuts = 64
-
--- the limit on cuts that the words behind the bound set
-abbrev pub cuts_of : List (List ℕ) → Option ℕ
-cuts_of words =
-    if length words == 8 then Some usual_cuts
-    else (if (length words == 10) && has_word words 8 (codes "--cuts") then number_within 1 100 (word words 9) else None)
-
-abbrev pub split_find : List (List ℕ) → ℕ → ℕ → Command
-split_find words cuts bound = SplitFind (word words 2) (word words 3) (word words 4) (word words 5) (word words 6) bound cuts
-
--- the search with so many cuts, where a bound is named
-abbrev pub split_within : List (List ℕ) → ℕ → Option Command
-split_within words cuts = option_map (split_find words cuts) (number_of (word words 7))
-
--- `split check`, or `split find`
-abbrev pub split_of : List (List ℕ) → Option Command
-split_of words =
-    if is_shape words (codes "split") (codes "check") 7 then Some (split_check words)
-    else (if has_word words 1 (codes "find") then option_and_then (split_within words) (cuts_of words) else None)
-
--- ---- a generated system, by a seed below 2^32 and the number of its tasks
-
-abbrev pub demo_with : List (List ℕ) → ℕ → Option Command
-demo_with words seed = option_map (Demo seed) (number_within 1 8 (word words 2))
-
-abbrev pub demo : List (List ℕ) → Option Command
-demo words = option_and_then (demo_with words) (number_within 0 4294967295 (word words 1))
-
 -- ---- all of them
 
 -- What the words ask for:
@@ -153,9 +120,8 @@ demo words = option_and_then (demo_with words) (number_within 0 4294967295 (word
 --   show code OIL ELF TIMING
 --   replay OIL ELF TIMING SCHEDULE
 --   loops OIL ELF TIMING TASK STATES
---   split find OIL ELF TIMING TASK STATES N [--cuts C]   split check OIL ELF TIMING TASK CERT
+--   split check OIL ELF TIMING TASK CERT
 --   trace record OIL ELF TIMING SCHEDULE                 trace judge OIL ELF TIMING TASK CERT TRACE
---   demo SEED TASKS
 abbrev pub command_of : List (List ℕ) → Option Command
 command_of words =
     if has_word words 0 (codes "check") then (if is_last words then Some (check words) else None)
@@ -166,11 +132,10 @@ command_of words =
     else (if is_shape words (codes "show") (codes "code") 5 then Some (show_code words)
     else (if is_single words (codes "replay") 5 then Some (replay words)
     else (if is_single words (codes "loops") 6 then Some (loops words)
-    else (if has_word words 0 (codes "split") then split_of words
+    else (if is_shape words (codes "split") (codes "check") 7 then Some (split_check words)
     else (if is_shape words (codes "trace") (codes "record") 6 then Some (trace_record words)
     else (if is_shape words (codes "trace") (codes "judge") 8 then Some (trace_judge words)
-    else (if is_single words (codes "demo") 3 then demo words
-    else None)))))))))))
+    else None))))))))))
 
 -- ---- worked cases
 
@@ -210,27 +175,7 @@ replay_case : command_of (codes "replay" ∷ codes "o" ∷ codes "e" ∷ codes "
     (Replay (codes "o") (codes "e") (codes "t") (codes "s"))
 replay_case = refl
 
-split_find_case : command_of
-    (codes "split" ∷ codes "find" ∷ codes "o" ∷ codes "e" ∷ codes "t" ∷ codes "T" ∷ codes "k" ∷ codes "127" ∷ []) ≡ Some
-    (SplitFind (codes "o") (codes "e") (codes "t") (codes "T") (codes "k") 127 64)
-split_find_case = refl
-
-cuts_case : command_of
-    (codes "split" ∷ codes "find" ∷ codes "o" ∷ codes "e" ∷ codes "t" ∷ codes "T" ∷ codes "k" ∷ codes "127" ∷ codes "--cuts" ∷ codes "3" ∷ []) ≡ Some
-    (SplitFind (codes "o") (codes "e") (codes "t") (codes "T") (codes "k") 127 3)
-cuts_case = refl
-
-too_many_cuts_case : command_of
-    (codes "split" ∷ codes "find" ∷ codes "o" ∷ codes "e" ∷ codes "t" ∷ codes "T" ∷ codes "k" ∷ codes "127" ∷ codes "--cuts" ∷ codes "101" ∷ []) ≡ None
-too_many_cuts_case = refl
-
 trace_judge_case : command_of
     (codes "trace" ∷ codes "judge" ∷ codes "o" ∷ codes "e" ∷ codes "t" ∷ codes "T" ∷ codes "c" ∷ codes "r" ∷ []) ≡ Some
     (TraceJudge (codes "o") (codes "e") (codes "t") (codes "T") (codes "c") (codes "r"))
 trace_judge_case = refl
-
-demo_case : command_of (codes "demo" ∷ codes "4294967295" ∷ codes "8" ∷ []) ≡ Some (Demo 4294967295 8)
-demo_case = refl
-
-no_tasks_case : command_of (codes "demo" ∷ codes "1" ∷ codes "0" ∷ []) ≡ None
-no_tasks_case = refl

@@ -105,7 +105,6 @@ fn answer_command<F: Files>(alloc: Global, command: &Command, files: &mut F) -> 
             task,
             states,
         } => loop_bounds(alloc, oil, elf, timing, task, states, files),
-        Command::SplitFind { .. } => no_command(alloc),
         Command::SplitCheck {
             oil,
             elf,
@@ -127,6 +126,5 @@ fn answer_command<F: Files>(alloc: Global, command: &Command, files: &mut F) -> 
             certificate,
             trace,
         } => trace_judged(alloc, oil, elf, timing, task, certificate, trace, files),
-        Command::Demo { .. } => no_command(alloc),
     }
 }

@@ -49,17 +49,7 @@ returns-in-Loops g c =
     let P : Command → Type 0 = λ k. StepsOf (IsCall g.F.Files.outside g.F.Files.reads) (Some k) c.args.files.now c.loop_bounds.result c.loop_bounds.new.files in
     subst P (sym c.in-Loops.is) c.loop_bounds.ensures
 
-pub returns-in-SplitFind : goal.returns-in-SplitFind
-returns-in-SplitFind g c =
-    let P : Command → Type 0 = λ k. StepsOf (IsCall g.F.Files.outside g.F.Files.reads) (Some k) c.args.files.now c.no_command.result c.args.files.now in
-    subst P (sym c.in-SplitFind.is) (refl, c.no_command.ensures)
-
 pub returns-in-SplitCheck : goal.returns-in-SplitCheck
 returns-in-SplitCheck g c =
     let P : Command → Type 0 = λ k. StepsOf (IsCall g.F.Files.outside g.F.Files.reads) (Some k) c.args.files.now c.split_checked.result c.split_checked.new.files in
     subst P (sym c.in-SplitCheck.is) c.split_checked.ensures
-
-pub returns-in-Demo : goal.returns-in-Demo
-returns-in-Demo g c =
-    let P : Command → Type 0 = λ k. StepsOf (IsCall g.F.Files.outside g.F.Files.reads) (Some k) c.args.files.now c.no_command-in-Demo.result c.args.files.now in
-    subst P (sym c.in-Demo.is) (refl, c.no_command-in-Demo.ensures)
