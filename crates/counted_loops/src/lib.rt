@@ -18,8 +18,6 @@ mod entering;
 mod found;
 mod laws;
 mod rounds;
-#[cfg(test)]
-mod tests;
 mod words;
 
 pub use bounds::{Found, counted};

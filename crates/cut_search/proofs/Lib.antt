@@ -1,5 +1,6 @@
 pub mod Covering
 pub mod GoodLeaves
+pub mod LawfulParts
 pub mod LeafNumbers
 pub mod LeafParts
 pub mod NodeAnswers

@@ -87,7 +87,7 @@ refusal_ray d limits solving.Memory says is = tt
 
 -- ---- Optima
 
-greatest_is : (d : RowsData) (o : Outcome) (optimum : Optimum) → SaysOutcome d pivot_limit o (Ok optimum) → o ≡ Greatest optimum.pivots optimum.multipliers optimum.denominator optimum.bound
+pub greatest_is : (d : RowsData) (o : Outcome) (optimum : Optimum) → SaysOutcome d pivot_limit o (Ok optimum) → o ≡ Greatest optimum.pivots optimum.multipliers optimum.denominator optimum.bound
 greatest_is d TooLarge optimum says = absurd says
 greatest_is d (Greatest number ms denominator value) optimum says = rw (says.0, says.1, says.2, says.3) refl
 greatest_is d (LargeMultiplier values) optimum says = absurd says

@@ -150,3 +150,16 @@ module _ (d : RowsData) (limits : List Limits) (u : List ℕ) (shape : IsShaped 
     where
       many : (i : ℕ) → i < length d.rows → i < length (map (λ (row : List ℤ). row ++ replicate (further_count limits) (pos 0)) d.rows ++ map (λ (row : LimitRow). row_of_terms (length (d.costs ++ replicate (further_count limits) further_cost)) row.terms) (limit_rows (length d.costs) limits))
       many i h = let c = padded_count in let parts = length-append (map (λ (row : List ℤ). row ++ replicate (further_count limits) (pos 0)) d.rows) (map (λ (row : LimitRow). row_of_terms (length (d.costs ++ replicate (further_count limits) further_cost)) row.terms) (limit_rows (length d.costs) limits)) in omega arith
+
+-- ---- How many
+
+pub node_columns : (d : RowsData) (limits : List Limits) → length d.costs ≤ length (node_rows d limits).costs
+node_columns d limits = let wide = length-append d.costs (replicate (further_count limits) further_cost) in omega arith
+
+pub node_count : (d : RowsData) (limits : List Limits) → length d.rows ≤ length (node_rows d limits).rows
+node_count d limits =
+    let pad : List ℤ → List ℤ = λ row. row ++ replicate (further_count limits) (pos 0) in
+    let of_terms : LimitRow → List ℤ = λ row. row_of_terms (length (d.costs ++ replicate (further_count limits) further_cost)) row.terms in
+    let parts = length-append (map pad d.rows) (map of_terms (limit_rows (length d.costs) limits)) in
+    let base = length-map d.rows pad in
+    omega arith

@@ -1,11 +1,12 @@
 -- The root of the search: no cut was made.
-use Rattle.std.proofs.Common.{◌≡◌, ℕ, ◌<◌, List, [], ◌∷◌, map, length, All, refl, subst, arith}
+use Rattle.std.proofs.Common.{◌≡◌, ℕ, ◌<◌, ◌≤◌, List, [], ◌∷◌, map, length, All, refl, subst, arith}
 use Rattle.std.proofs.lemmas.List.Elements.{All-cons, All-head, All-nil, All-tail}
 use Rattle.whole_rows.specs.Rows.{RowsData}
 use Rattle.whole_simplex.specs.Answers.{IsUnbounded}
 use Rattle.whole_simplex.specs.Outcome.{Direction, outcome_of}
 use Rattle.whole_simplex.specs.declared.SolveFault.TheVariants as solving
 use Rattle.split_trees.specs.Good.{IsGoodTree}
+use Rattle.split_trees.specs.Lawful.{IsLawfulTree}
 use Rattle.split_trees.specs.Tree.{Tree}
 use Rattle.split_trees.specs.declared.side.Side.{Side}
 use Rattle.cut_search.specs.declared.fault.SplitFault.{SplitFault}
@@ -15,7 +16,7 @@ use Rattle.cut_search.specs.Leaves.{sides_of}
 use Rattle.cut_search.specs.Search.{free, pivot_limit}
 use Rattle.cut_search.specs.Working.Limits.{AreInOrder, HasSmallLimits, IsFree}
 use Rattle.cut_search.specs.Working.Nodes.{LieWithin}
-use Rattle.cut_search.specs.Working.Searching.{AreLimits, IsGoodPart, IsNodeRay}
+use Rattle.cut_search.specs.Working.Searching.{AreLimits, IsGoodPart, IsLawfulPart, IsNodeRay}
 use Rattle.cut_search.proofs.Order.{free_sides}
 use Rattle.cut_search.proofs.Rays.{root_rows}
 
@@ -58,3 +59,6 @@ root_ray d columns (faults.Solve solving.Memory) is = tt
 root_ray d columns (faults.Cuts count) is = tt
 root_ray d columns faults.NoTree is = tt
 root_ray d columns faults.Memory is = tt
+
+pub root_lawful : (cuts : ℕ) (tree : Tree) → cuts ≤ 100 → IsLawfulPart cuts tree → IsLawfulTree tree
+root_lawful cuts tree few lawful = let depth = lawful.depth in record { depth = omega arith; numbers = lawful.numbers }

@@ -57,10 +57,6 @@ cut_says d bound cuts left limits place answer says cut (suc depth) h =
 
 -- ---- A cut
 
-pub none_left : (d : RowsData) (bound cuts left : ℕ) (limits : List Limits) (place : ℕ) → left ≡ 0 → SaysCut d bound cuts left limits place (Err (faults.Cuts cuts))
-none_left d bound cuts left limits place e = λ depth h.
-    subst (λ (r : Result Tree Ending). SaysSearch cuts r (Err (faults.Cuts cuts))) (sym (no_cut (searched d bound depth) left limits place e)) refl
-
 -- a step that says why there is no tree says so of what goes on from it
 goes_on : (cuts : ℕ) (r : Result Tree Ending) (next : Tree → Result Tree Ending) (fault : SplitFault) → SaysSearch cuts r (Err fault) → SaysSearch cuts (r >>= next) (Err fault)
 goes_on cuts (Err ending) next fault says = says

@@ -3,6 +3,7 @@
 ghost use Rattle.std.specs.Prelude.{◌≡◌, ◌<◌, ◌≤◌, All, IfErr, IfOk, length, map};
 ghost use Rattle.whole_rows.specs.Duals.{HasSmallSizes};
 ghost use Rattle.split_trees.specs.Good.{IsGoodTree};
+ghost use Rattle.split_trees.specs.Lawful.{IsLawfulTree};
 ghost use Rattle.cut_search.specs.Answers.{IsRayOf, SaysSearch};
 ghost use Rattle.cut_search.specs.Search.{free, search_over};
 
@@ -29,6 +30,7 @@ pub fn find_tree(
     requires few { cuts ≤ 100 }
     ensures outcome { SaysSearch cuts (search_over rows.now columns.now bound cuts) result }
     ensures good { IfOk result (IsGoodTree rows.now bound) }
+    ensures lawful { 0 < length rows.now.rows → IfOk result IsLawfulTree }
     ensures ray { IfErr result (IsRayOf rows.now) }
 {
     let mut limits = free_limits(alloc, columns)?;

@@ -8,7 +8,7 @@ ghost use Rattle.cut_search.specs.Leaves.{leaf_multipliers as leaf_multipliers_i
 ghost use Rattle.cut_search.specs.Nodes.{node_rows as rows_in};
 ghost use Rattle.cut_search.specs.Search.{meets_bound, pivot_limit};
 ghost use Rattle.cut_search.specs.Working.Limits.{IsFree};
-ghost use Rattle.cut_search.specs.Working.Searching.{AreLeafMultipliers, AreLimits, HaveNoRay, IsDecided, IsGoodNode, IsNodeOptimum, IsNodeRay, SaysNode, is_yes, told_of};
+ghost use Rattle.cut_search.specs.Working.Searching.{AreLeafMultipliers, AreLimits, HaveNoRay, IsDecided, IsGoodNode, IsLawfulNode, IsNodeOptimum, IsNodeRay, SaysNode, is_yes, told_of};
 
 use crate::SplitFault;
 use crate::leaves::{Sides, leaf_multipliers, sides_of, sizes};
@@ -46,6 +46,7 @@ pub(crate) fn judge(
     requires few { length (sides_in limits.now) ≤ 100 }
     ensures says { SaysNode base.now bound limits.now result }
     ensures good { IfOk result (IsGoodNode base.now bound (sides_in limits.now)) }
+    ensures lawful { IfOk result (IsLawfulNode base.now) }
     ensures ray { IfErr result (IsNodeRay base.now limits.now) }
     ensures bounded { IfOk result (λ node. All IsFree limits.now → HaveNoRay base.now) }
 {
@@ -105,6 +106,7 @@ fn judged_by(
     requires optimum { IsNodeOptimum base.now limits.now optimum.now }
     ensures says { SaysNode base.now bound limits.now result }
     ensures good { IfOk result (IsGoodNode base.now bound (sides_in limits.now)) }
+    ensures lawful { IfOk result (IsLawfulNode base.now) }
     ensures ray { IfErr result (IsNodeRay base.now limits.now) }
     ensures bounded { IfOk result (λ node. All IsFree limits.now → HaveNoRay base.now) }
 {
@@ -144,6 +146,7 @@ fn judged_leaf(
         ≡ leaf_multipliers_in base.now limits.now (map unsigned_abs optimum.now.multipliers) }
     ensures says { SaysNode base.now bound limits.now result }
     ensures good { IfOk result (IsGoodNode base.now bound (sides_in limits.now)) }
+    ensures lawful { IfOk result (IsLawfulNode base.now) }
     ensures ray { IfErr result (IsNodeRay base.now limits.now) }
     ensures bounded { IfOk result (λ node. All IsFree limits.now → HaveNoRay base.now) }
 {

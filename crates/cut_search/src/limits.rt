@@ -4,8 +4,6 @@ ghost use Rattle.std.specs.Prelude.{◌≡◌, ◌<◌, ◌+◌, ◌^◌, None, 
 ghost use Rattle.cut_search.specs.Search as words;
 ghost use Rattle.cut_search.specs.Working.Limits.{IsFree};
 
-use listed::ListedNumbers;
-
 /// How often a move may be made that takes a source: at least `low` times, and at most `high`
 /// times where that is known.
 #[derive(Clone, Copy, Debug)]
@@ -14,8 +12,6 @@ pub(crate) struct Limits {
     pub(crate) low: u32,
     pub(crate) high: Option<u32>,
 }
-
-pub(crate) type AllLimits = ListedNumbers<Limits>;
 
 /// The limits on the low side of a cut at the lower limit.
 pub(crate) fn low_side(limits: Limits) -> Limits

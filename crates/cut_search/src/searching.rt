@@ -1,12 +1,12 @@
 //! The search from a node on, down its cuts.
 
-ghost use Rattle.std.specs.Prelude.{◌≡◌, ◌+◌, ◌≤◌, ◌⊎◌, ◌<◌, ℕ, All, IfErr, IfOk, OnOk, length};
+ghost use Rattle.std.specs.Prelude.{◌≡◌, ◌+◌, ◌≤◌, ◌⊎◌, ◌<◌, ◌^◌, ℕ, All, IfErr, IfOk, OnOk, length};
 ghost use Rattle.whole_rows.specs.Duals.{HasSmallSizes};
 ghost use Rattle.split_trees.specs.Tree.{Cut, Leaf};
 ghost use Rattle.cut_search.specs.Leaves.{sides_of};
 ghost use Rattle.cut_search.specs.Search.{low_side as low_limits, searched};
 ghost use Rattle.cut_search.specs.Working.Limits.{IsFirstOpen, IsFree};
-ghost use Rattle.cut_search.specs.Working.Searching.{AreLimits, HaveNoRay, IsGoodPart, IsLowPart, IsNoRay, IsNodeRay, SaysCut, SaysPart};
+ghost use Rattle.cut_search.specs.Working.Searching.{AreLimits, HaveNoRay, IsGoodPart, IsLawfulPart, IsLowPart, IsNoRay, IsNodeRay, SaysCut, SaysPart};
 
 use crate::SplitFault;
 use crate::judging::{Judged, judge};
@@ -40,6 +40,7 @@ pub(crate) fn search(
     ensures says { (depth : ℕ) → left ≤ depth
         → SaysPart cuts left (searched base.now bound depth left limits.old) result }
     ensures good { IfOk result (λ part. IsGoodPart base.now bound (sides_of limits.old) part.tree) }
+    ensures lawful { 0 < length base.now.rows → IfOk result (λ part. IsLawfulPart left part.tree) }
     ensures limits { OnOk result (limits.new ≡ limits.old) }
     ensures ray { IfErr result (IsNodeRay base.now limits.old) }
 {
@@ -80,9 +81,11 @@ fn search_cut(
     requires limits { AreLimits base.now limits.old }
     requires few { length (sides_of limits.old) + left ≤ 100 }
     requires bounded { HaveNoRay base.now }
+    requires size { 0 < length base.now.rows → length base.now.costs < 2 ^ 32 }
     requires place { IsFirstOpen limits.old place }
     ensures says { SaysCut base.now bound cuts left limits.old place result }
     ensures good { IfOk result (λ part. IsGoodPart base.now bound (sides_of limits.old) part.tree) }
+    ensures lawful { 0 < length base.now.rows → IfOk result (λ part. IsLawfulPart left part.tree) }
     ensures limits { OnOk result (limits.new ≡ limits.old) }
     ensures ray { IfErr result IsNoRay }
 {
@@ -116,10 +119,12 @@ fn search_high(
     requires limits { AreLimits base.now limits.old }
     requires few { length (sides_of limits.old) + left ≤ 100 }
     requires bounded { HaveNoRay base.now }
+    requires size { 0 < length base.now.rows → length base.now.costs < 2 ^ 32 }
     requires place { IsFirstOpen limits.old place }
     requires low { IsLowPart base.now bound left limits.old place low }
     ensures says { SaysCut base.now bound cuts left limits.old place result }
     ensures good { IfOk result (λ part. IsGoodPart base.now bound (sides_of limits.old) part.tree) }
+    ensures lawful { 0 < length base.now.rows → IfOk result (λ part. IsLawfulPart left part.tree) }
     ensures limits { OnOk result (limits.new ≡ limits.old) }
     ensures ray { IfErr result IsNoRay }
 {

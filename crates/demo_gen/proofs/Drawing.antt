@@ -1,9 +1,9 @@
 -- Tasks that are drawn one after the other are those of the seed.
-use Rattle.std.proofs.Common.{◌≡◌, ℕ, suc, ◌+◌, ◌*◌, ◌/◌, ◌%◌, ◌<◌, ◌≤◌, List, map, ◌++◌, ◌∷◌, [], refl, sym, ap, ◌∙◌, arith}
+use Rattle.std.proofs.Common.{◌≡◌, ℕ, suc, ◌+◌, ◌*◌, ◌%◌, ◌<◌, ◌≤◌, List, map, ◌++◌, ◌∷◌, [], refl, sym, arith}
 use Rattle.std.specs.List.{range_with_len}
 use Rattle.std.proofs.lemmas.List.FromFn.{map-range_with_len_more}
 use Rattle.demo_gen.specs.declared.task.DemoTask.{DemoTask}
-use Rattle.demo_gen.specs.Draws.{base, state_after, moved_on, draw, entry_of, task_at}
+use Rattle.demo_gen.specs.Draws.{state_after, draw, entry_of, task_at}
 use Rattle.demo_gen.specs.Working.Drawing.{task_from, thrice}
 
 -- so many tasks have been drawn, and this state and address are those of the next one

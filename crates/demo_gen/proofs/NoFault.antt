@@ -1,6 +1,6 @@
 -- The tree of a generated system has no fault.
-use Rattle.std.proofs.Common.{◌≡◌, ℕ, zero, suc, ◌+◌, ◌*◌, ◌<◌, ◌≤◌, Bool, true, false, List, [], ◌∷◌, ◌++◌, length, map, Option, Some, None, refl, sym, ap, ◌∙◌, subst, arith, append_assoc}
-use Rattle.std.specs.Prelude.{codes, nat_le, bytes_eq, count_by, ◌==◌}
+use Rattle.std.proofs.Common.{◌≡◌, ℕ, ◌+◌, ◌*◌, ◌<◌, ◌≤◌, false, List, [], ◌∷◌, ◌++◌, length, map, None, refl, sym, ap, ◌∙◌, arith, append_assoc}
+use Rattle.std.specs.Prelude.{codes, count_by, ◌==◌}
 use Rattle.std.specs.List.{AllByRecursion, list_any}
 use Rattle.std.proofs.lemmas.Bool.{le-leb, lt-leb, ne_eqb}
 use Rattle.std.proofs.lemmas.List.{map-append, length-map, length-append, append-nil}
@@ -8,12 +8,12 @@ use Rattle.std.proofs.lemmas.List.Sums.{count_by-le-length}
 use Rattle.oil_grammar.specs.declared.tree.Object.{Object}
 use Rattle.oil_model.specs.Attributes.{block}
 use Rattle.oil_model.specs.Meaning.{fault_from, end_fault, model_fault_of}
-use Rattle.oil_model.specs.References.{id_of, internal_of, is_kind, priority_of}
+use Rattle.oil_model.specs.References.{internal_of, is_kind, priority_of}
 use Rattle.oil_model.specs.Rules.{task_rules, alarm_rules, counter_rules, attributes_fault, fault_of, object_fault, is_taken, clashes, shares_priority}
 use Rattle.demo_gen.specs.declared.task.DemoTask.{DemoTask}
 use Rattle.demo_gen.specs.Draws.{base, size_of}
-use Rattle.demo_gen.specs.Demo.{task_name, alarm_name, mode_name, counter_name, mode_object, counter_object, task_object, alarm_object, objects_of, the_tree}
-use Rattle.demo_gen.specs.Working.Drawn.{IsTask, Follow, AreDrawn}
+use Rattle.demo_gen.specs.Demo.{mode_object, counter_object, task_object, alarm_object, objects_of, the_tree}
+use Rattle.demo_gen.specs.Working.Drawn.{Follow, AreDrawn}
 use Rattle.demo_gen.proofs.SystemNames.{other_task, other_alarm, alarm_no_task}
 use Rattle.demo_gen.proofs.SystemOf.{Finds, finds_in, priority}
 

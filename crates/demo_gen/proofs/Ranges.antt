@@ -1,5 +1,5 @@
 -- What is drawn is in its ranges.
-use Rattle.std.proofs.Common.{◌≡◌, ◌≢◌, ℕ, zero, suc, ◌+◌, ◌*◌, ◌/◌, ◌%◌, ◌^◌, ◌<◌, ◌≤◌, List, [], ◌∷◌, ◌++◌, length, map, replicate, All, refl, sym, ap, ◌∙◌, subst, arith}
+use Rattle.std.proofs.Common.{◌≡◌, ◌≢◌, ℕ, zero, suc, ◌+◌, ◌*◌, ◌%◌, ◌<◌, ◌≤◌, List, [], ◌∷◌, ◌++◌, length, map, replicate, All, refl, sym, ap, ◌∙◌, subst, arith}
 use Rattle.std.specs.Prelude.{flat_map, codes, decimal}
 use Rattle.std.specs.List.{range_with_len, AllByRecursion}
 use Rattle.std.proofs.lemmas.Fmt.{decimal_digit}
@@ -37,11 +37,10 @@ follow_from : (seed count number more : ℕ) → 1 ≤ count → count ≤ 8 →
 unfolding entry_of
 follow_from seed count number zero some few = tt
 follow_from seed count number (suc more) some few =
-    let next : suc number ≡ number + 1 = omega arith in
-    (
+    let next : suc number ≡ number + 1 = omega arith in (
       is_task seed count number some few,
       subst (λ after. Follow (number + 1) after (map (task_at seed count) (range_with_len (number + 1) more)))
-      (ap (entry_of seed) (sym next)) (follow_from seed count (number + 1) more some few),
+          (ap (entry_of seed) (sym next)) (follow_from seed count (number + 1) more some few),
     )
 
 pub are_drawn : (seed count : ℕ) → 1 ≤ count → count ≤ 8 → AreDrawn (tasks_of seed count)
@@ -56,11 +55,10 @@ are_drawn seed count some few =
 pub each_task : (P : DemoTask → Type 0) → ((number entry : ℕ) (task : DemoTask) → number < 8 → entry ≤ 0x1000 + 104 * 8 → IsTask number entry task → P task)
     → (number entry : ℕ) (tasks : List DemoTask) → number + length tasks ≤ 8 → entry ≤ 0x1000 + 104 * number → Follow number entry tasks → AllByRecursion P tasks
 each_task P holds number entry [] few low follow = tt
-each_task P holds number entry (task ∷ tasks) few low follow =
-    (
-      holds number entry task (omega arith) (omega arith) follow.0,
-      each_task P holds (number + 1) (entry + 4 * size_of task.steps) tasks (omega arith) (omega (arith, follow.0.few)) follow.1,
-    )
+each_task P holds number entry (task ∷ tasks) few low follow = (
+  holds number entry task (omega arith) (omega arith) follow.0,
+  each_task P holds (number + 1) (entry + 4 * size_of task.steps) tasks (omega arith) (omega (arith, follow.0.few)) follow.1,
+)
 
 all_tasks : (P : DemoTask → Type 0) → ((number entry : ℕ) (task : DemoTask) → number < 8 → entry ≤ 0x1000 + 104 * 8 → IsTask number entry task → P task)
     → (tasks : List DemoTask) → AreDrawn tasks → All P tasks

@@ -1,15 +1,12 @@
 -- The listed states: each fits the system, and none stands twice.
-use Rattle.std.proofs.Common.{◌≡◌, ◌≢◌, ℕ, zero, suc, ◌+◌, ◌^◌, ◌<◌, ◌≤◌, ◌==◌, Bool, true, false, cond, List, [], ◌∷◌, ◌++◌, length, map, replicate, All, Some, refl, sym, ap, ◌∙◌, subst, arith}
+use Rattle.std.proofs.Common.{◌≡◌, ◌≢◌, ℕ, zero, suc, ◌+◌, ◌<◌, ◌≤◌, ◌==◌, Bool, true, false, cond, List, [], ◌∷◌, ◌++◌, length, map, Some, refl, sym, ap, ◌∙◌, arith}
 use Rattle.std.specs.Prelude.{filter, flat_map, slice_get}
 use Rattle.std.specs.List.{range_with_len, AllByRecursion, list_any}
 use Rattle.std.proofs.lemmas.Bool.{false≢true, eqb-true}
 use Rattle.std.proofs.lemmas.List.{length-replicate}
 use Rattle.listed.specs.Lists.{differ, AllFrom}
-use Rattle.osek_kernel.specs.declared.context.Context.{Context}
 use Rattle.osek_kernel.specs.declared.context.Context.TheVariants as contexts
-use Rattle.abstract_sched.specs.declared.rules.StateRules.{StateRules}
 use Rattle.abstract_sched.specs.declared.states.AbsState.{AbsState}
-use Rattle.abstract_sched.specs.declared.states.TaskAt.TheVariants.{Suspended, At}
 use Rattle.abstract_sched.specs.Fits.{FitsTask, FitsRules, AreLawful}
 use Rattle.abstract_sched.specs.States.{same_state}
 use Rattle.abstract_sched.proofs.Sameness.{state_Decides}
@@ -55,11 +52,10 @@ apart_append (x ∷ xs) ys first then across = (each_append (λ y. x ≢ y) xs y
 
 apart_cons : (b : Bool) (xs : List (List Bool)) → Apart xs → Apart (map (λ set. b ∷ set) xs)
 apart_cons b [] apart = tt
-apart_cons b (x ∷ xs) apart =
-    (
-      each_map (λ y. (b ∷ x) ≢ y) (λ set. b ∷ set) xs (each_weaker (λ y. x ≢ y) (λ y. (b ∷ x) ≢ (b ∷ y)) (λ y differ same. differ (cc)) xs apart.0),
-      apart_cons b xs apart.1,
-    )
+apart_cons b (x ∷ xs) apart = (
+  each_map (λ y. (b ∷ x) ≢ y) (λ set. b ∷ set) xs (each_weaker (λ y. x ≢ y) (λ y. (b ∷ x) ≢ (b ∷ y)) (λ y differ same. differ (cc)) xs apart.0),
+  apart_cons b xs apart.1,
+)
 
 apart_kept : (x : List Bool) (rest : List (List Bool)) (b : Bool) → AllByRecursion (λ y. x ≢ y) rest → Apart rest → Apart (cond b (x ∷ rest) rest)
 apart_kept x rest true first then = (first, then)

@@ -1,5 +1,5 @@
 -- Tokens that are names, texts, numbers and signs have a text: each one, with a space before it.
-use Rattle.std.proofs.Common.{◌≡◌, ℕ, ◌^◌, ◌<◌, List, [], ◌∷◌, ◌++◌, refl, ◌∙◌, decimal}
+use Rattle.std.proofs.Common.{◌≡◌, ℕ, List, [], ◌∷◌, ◌++◌, refl, ◌∙◌}
 use Rattle.std.specs.Prelude.{⊤}
 use Rattle.oil_grammar.specs.Grammar.{File, file_tokens}
 use Rattle.oil_grammar.specs.Tokens.{found, first_in, is_skipped, after_gap, BeginWith, AreTokensOf}
@@ -26,17 +26,16 @@ unfolding BeginWith after_gap
 are_tokens [] are = ([], record { left = 32 ∷ []; begin = refl; end = refl })
 are_tokens (t ∷ tokens) are =
     let others = are_tokens tokens are.1 in
-    let bytes = are.0.0 in
-    (
+    let bytes = are.0.0 in (
       bytes ++ 32 ∷ others.0,
       record {
         left = others.1.left;
         begin = (
-            bytes ++ 32 ∷ others.0,
-            32 ∷ others.0,
-            first_behind_space (is_skipped t) (bytes ++ 32 ∷ others.0) ∙ are.0.1 others.0,
-            others.1.begin,
-          );
+          bytes ++ 32 ∷ others.0,
+          32 ∷ others.0,
+          first_behind_space (is_skipped t) (bytes ++ 32 ∷ others.0) ∙ are.0.1 others.0,
+          others.1.begin,
+        );
         end = others.1.end;
       },
     )

@@ -1,7 +1,7 @@
 -- Which objects of a generated system have a kind or a name.
-use Rattle.std.proofs.Common.{◌≡◌, ◌⊎◌, ℕ, zero, suc, ◌+◌, ◌*◌, ◌<◌, ◌≤◌, Bool, true, false, cond, not, List, [], ◌∷◌, ◌++◌, length, map, Option, Some, None, inl, inr, refl, sym, ap, ◌∙◌, subst, arith, decimal}
+use Rattle.std.proofs.Common.{◌≡◌, ◌⊎◌, ℕ, ◌+◌, ◌*◌, ◌<◌, ◌≤◌, Bool, true, false, List, [], ◌∷◌, ◌++◌, length, map, Some, inl, inr, refl, ap, ◌∙◌, arith, decimal}
 use Rattle.std.specs.Prelude.{codes, filter, bytes_eq, nat_lt}
-use Rattle.std.specs.List.{position, position_or_len, list_any}
+use Rattle.std.specs.List.{position, position_or_len}
 use Rattle.std.proofs.lemmas.Bool.{cases_lt, lt-ltb}
 use Rattle.std.proofs.lemmas.List.{length-map}
 use Rattle.std.proofs.lemmas.List.Elements.{filter-append}
@@ -11,7 +11,7 @@ use Rattle.oil_model.specs.References.{is_kind, is_named, of_kind, id_of}
 use Rattle.demo_gen.specs.declared.task.DemoTask.{DemoTask}
 use Rattle.demo_gen.specs.Draws.{base, size_of}
 use Rattle.demo_gen.specs.Demo.{task_name, alarm_name, mode_name, counter_name, mode_object, counter_object, task_object, alarm_object, objects_of}
-use Rattle.demo_gen.specs.Working.Drawn.{IsTask, Follow, AreDrawn}
+use Rattle.demo_gen.specs.Working.Drawn.{Follow, AreDrawn}
 use Rattle.demo_gen.proofs.ObjectNames.{same_number, other_first}
 
 -- ---- Tests of names

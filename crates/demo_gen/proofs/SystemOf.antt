@@ -1,7 +1,6 @@
 -- The tree of a generated system stands for the system.
-use Rattle.std.proofs.Common.{◌≡◌, ℕ, zero, suc, ◌+◌, ◌*◌, ◌<◌, ◌≤◌, Bool, true, false, List, [], ◌∷◌, ◌++◌, length, map, Some, None, refl, sym, ap, ◌∙◌, subst, arith, max}
-use Rattle.std.specs.Prelude.{codes, nat_le, fold, bytes_eq, filter}
-use Rattle.std.specs.List.{AllByRecursion, list_any}
+use Rattle.std.proofs.Common.{◌≡◌, ℕ, suc, ◌+◌, ◌*◌, ◌<◌, ◌≤◌, List, [], ◌∷◌, length, map, Some, refl, sym, ap, ◌∙◌, arith, max}
+use Rattle.std.specs.Prelude.{codes, fold}
 use Rattle.std.proofs.lemmas.Bool.{le-leb}
 use Rattle.oil_grammar.specs.declared.tree.Object.{Object}
 use Rattle.oil_model.specs.Attributes.{block}
@@ -11,7 +10,7 @@ use Rattle.oil_model.specs.References.{id_of, internal_of, priority_of, greatest
 use Rattle.demo_gen.specs.declared.task.DemoTask.{DemoTask}
 use Rattle.demo_gen.specs.Draws.{base, size_of}
 use Rattle.demo_gen.specs.Demo.{task_name, mode_name, counter_name, task_object, alarm_object, objects_of, system_task, system_alarm, the_tree, the_system}
-use Rattle.demo_gen.specs.Working.Drawn.{IsTask, Follow, AreDrawn}
+use Rattle.demo_gen.specs.Working.Drawn.{Follow, AreDrawn}
 use Rattle.demo_gen.proofs.SystemNames.{tasks_are, alarms_are, counters_are, modes_are, isrs_are, resources_are, task_id, counter_id, mode_id}
 
 pub priority : (task : DemoTask) → task.number < 8 → priority_of (task_object task) ≡ task.number + 1

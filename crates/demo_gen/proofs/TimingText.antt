@@ -1,6 +1,6 @@
 -- The text of a timing, and what is read of it.
-use Rattle.std.proofs.Common.{◌≡◌, ℕ, suc, ◌+◌, ◌*◌, ◌%◌, ◌^◌, ◌<◌, ◌≤◌, Bool, true, false, not, List, [], ◌∷◌, ◌++◌, length, map, Some, Result, Ok, refl, sym, ap, ◌∙◌, inl, arith}
-use Rattle.std.specs.Prelude.{IsUtf8, codes, nat_le, ◌==◌, ◌&&◌}
+use Rattle.std.proofs.Common.{◌≡◌, ℕ, suc, ◌+◌, ◌*◌, ◌%◌, ◌^◌, ◌<◌, ◌≤◌, Bool, true, false, List, [], ◌∷◌, ◌++◌, length, map, Some, Ok, refl, ap, ◌∙◌, inl, arith}
+use Rattle.std.specs.Prelude.{IsUtf8, codes, ◌==◌}
 use Rattle.std.specs.List.{list_all, list_any, AllByRecursion}
 use Rattle.std.proofs.lemmas.Bool.{le-leb, eq-eqb, ne_eqb}
 use Rattle.std.proofs.lemmas.List.{length-map}
@@ -12,9 +12,7 @@ use Rattle.serde_json.specs.View.{items_of}
 use Rattle.serde_json.specs.Written.{has_float, items_have_float, compact_text}
 use Rattle.listed.specs.Lists.{differ, each_from}
 use Rattle.json_fields.specs.Files.{IsGiven}
-use Rattle.json_fields.specs.Numbers.{whole_in}
 use Rattle.json_fields.proofs.Words.{members_of-items_of}
-use Rattle.timing_file.specs.declared.fault.TimingKind.{TimingKind}
 use Rattle.timing_file.specs.declared.fault.TimingKind.TheVariants as timing_kinds
 use Rattle.timing_file.specs.declared.timing.Loop.{Loop}
 use Rattle.timing_file.specs.Form.{is_range, is_keyed, has_form, has_keys_of, has_known_keys}
@@ -27,9 +25,8 @@ use Rattle.demo_gen.specs.declared.task.DemoTask.{DemoTask}
 use Rattle.demo_gen.specs.Draws.{base, size_of}
 use Rattle.demo_gen.specs.Demo.{loop_of, the_timing}
 use Rattle.demo_gen.specs.Texts.{loop_data, timing_data, timing_text}
-use Rattle.demo_gen.specs.Working.Drawn.{IsTask, Follow, AreDrawn, HasRoom}
+use Rattle.demo_gen.specs.Working.Drawn.{Follow, AreDrawn}
 use Rattle.demo_gen.proofs.AddressTexts.{address_back}
-use Rattle.demo_gen.proofs.Ranges.{each_task}
 
 -- ---- Its text
 
@@ -72,8 +69,7 @@ are_read : (number entry : ℕ) (tasks : List DemoTask) → number + length task
     → Follow number entry tasks → AllByRecursion IsRead tasks
 are_read number entry [] few low aligned follow = tt
 are_read number entry (task ∷ tasks) few low aligned follow =
-    let is = follow.0 in
-    (
+    let is = follow.0 in (
       record {
         from = omega (arith, is.entry_is, is.few);
         to = omega (arith, is.entry_is, is.few);

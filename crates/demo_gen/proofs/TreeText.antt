@@ -1,5 +1,5 @@
 -- Some text has the tree of a generated system.
-use Rattle.std.proofs.Common.{◌≡◌, ℕ, ◌+◌, ◌^◌, ◌<◌, ◌≤◌, Bool, true, false, List, [], ◌∷◌, ◌++◌, drop, map, Some, None, refl, sym, ap, ◌∙◌, subst, arith, decimal}
+use Rattle.std.proofs.Common.{◌≡◌, ℕ, ◌+◌, ◌^◌, ◌<◌, Bool, true, false, List, [], ◌∷◌, ◌++◌, drop, map, Some, None, refl, ap, subst, arith, decimal}
 use Rattle.std.specs.Prelude.{codes}
 use Rattle.std.specs.List.{AllByRecursion, list_all}
 use Rattle.std.proofs.lemmas.Bool.{and_parts}
@@ -8,11 +8,9 @@ use Rattle.oil_grammar.specs.Bytes.{is_name_byte}
 use Rattle.oil_grammar.specs.Names.{is_name}
 use Rattle.oil_grammar.specs.Layout.{quoted_layout}
 use Rattle.oil_grammar.specs.declared.tree.Value.{Value}
-use Rattle.oil_grammar.specs.Grammar.{Block, empty, plain, braced, WrittenObject, File, block_tokens, objects_tokens, file_tokens, objects_of, attributes_of, tree_of, IsNoWord, IsBlock, AreObjects, IsFile, IsTextOf, IsWellFormed, depth_limit, value_token}
-use Rattle.oil_grammar.specs.declared.tree.Object.{Object}
-use Rattle.oil_grammar.specs.declared.tree.Tree.{Tree}
+use Rattle.oil_grammar.specs.Grammar.{Block, empty, plain, braced, WrittenObject, File, block_tokens, objects_tokens, file_tokens, objects_of, attributes_of, tree_of, IsNoWord, IsBlock, AreObjects, IsFile, IsWellFormed, depth_limit, value_token}
 use Rattle.oil_grammar.specs.declared.tree.Value.TheVariants as value
-use Rattle.oil_grammar.proofs.Proper.{Every, is_text_byte, IsName}
+use Rattle.oil_grammar.proofs.Proper.{Every, IsName}
 use Rattle.oil_grammar.proofs.Spelled.{first_name, first_number, first_text, first_equals, first_semicolon, first_open, first_close}
 use Rattle.demo_gen.specs.declared.task.DemoTask.{DemoTask}
 use Rattle.demo_gen.specs.Demo as demo
@@ -170,18 +168,16 @@ empty_spelled follow are = are
 
 plain_spelled : (name : List ℕ) (v : Value) (others : Block) → is_name name ≡ true → IsSpelled v → IsSpelledBlock others → IsSpelledBlock (plain name v None others)
 unfolding block_tokens
-plain_spelled name v others is spelled later follow are =
-    (
-      named name (literal name is),
-      ((61 ∷ [], λ rest. first_equals (32 ∷ rest)), (spelled, ((59 ∷ [], λ rest. first_semicolon (32 ∷ rest)), later follow are))),
-    )
+plain_spelled name v others is spelled later follow are = (
+  named name (literal name is),
+  ((61 ∷ [], λ rest. first_equals (32 ∷ rest)), (spelled, ((59 ∷ [], λ rest. first_semicolon (32 ∷ rest)), later follow are))),
+)
 
 braced_spelled : (name : List ℕ) (v : Value) (inner others : Block) → is_name name ≡ true → IsSpelled v → IsSpelledBlock inner → IsSpelledBlock others
     → IsSpelledBlock (braced name v inner None others)
 unfolding block_tokens
 braced_spelled name v inner others is spelled within later follow are =
-    let end = closing_spelled (block_tokens others follow) (later follow are) in
-    (
+    let end = closing_spelled (block_tokens others follow) (later follow are) in (
       named name (literal name is),
       (
         (61 ∷ [], λ rest. first_equals (32 ∷ rest)),
@@ -245,23 +241,22 @@ all_spelled tasks follow each are =
 
 file_spelled : (tasks : List DemoTask) → AllByRecursion IsWritten tasks → AreSpelled (file_tokens (the_file tasks))
 unfolding block_tokens
-file_spelled tasks each =
+file_spelled tasks each = (
+  named (codes "OIL_VERSION") (literal (codes "OIL_VERSION") refl),
+  (
+    (61 ∷ [], λ rest. first_equals (32 ∷ rest)),
     (
-      named (codes "OIL_VERSION") (literal (codes "OIL_VERSION") refl),
+      (quoted_layout (codes "2.5"), λ rest. first_text (codes "2.5") (32 ∷ rest) (refl, (refl, (refl, tt)))),
       (
-        (61 ∷ [], λ rest. first_equals (32 ∷ rest)),
+        (59 ∷ [], λ rest. first_semicolon (32 ∷ rest)),
         (
-          (quoted_layout (codes "2.5"), λ rest. first_text (codes "2.5") (32 ∷ rest) (refl, (refl, (refl, tt)))),
-          (
-            (59 ∷ [], λ rest. first_semicolon (32 ∷ rest)),
-            (
-              named (codes "CPU") (literal (codes "CPU") refl),
-              (named (codes "Demo") (literal (codes "Demo") refl), ((123 ∷ [], λ rest. first_open (32 ∷ rest)), all_spelled tasks (closing []) each (closing_spelled [] tt))),
-            ),
-          ),
+          named (codes "CPU") (literal (codes "CPU") refl),
+          (named (codes "Demo") (literal (codes "Demo") refl), ((123 ∷ [], λ rest. first_open (32 ∷ rest)), all_spelled tasks (closing []) each (closing_spelled [] tt))),
         ),
       ),
-    )
+    ),
+  ),
+)
 
 -- ---- The tree has a text
 

@@ -1,6 +1,5 @@
 -- Worked cases of draws, tasks and states.
-use Rattle.std.specs.Prelude.{◌≡◌, ℕ, ◌+◌, ◌*◌, true, false, List, [], ◌∷◌, map, codes, None, refl}
-use Rattle.std.specs.Fmt.{digits}
+use Rattle.std.specs.Prelude.{◌≡◌, ℕ, ◌+◌, ◌*◌, true, false, [], ◌∷◌, map, None, refl}
 use Rattle.std.specs.List.{range_with_len}
 use Rattle.abstract_sched.specs.declared.states.TaskAt.TheVariants.{Suspended, At}
 use Rattle.demo_gen.specs.declared.task.DemoTask.{DemoTask}

@@ -1,5 +1,5 @@
 -- What the readers make of the four texts.
-use Rattle.std.specs.Prelude.{ℕ, false, List, length, map, replicate, Result, Ok}
+use Rattle.std.specs.Prelude.{ℕ, false, List, length, map, replicate, Ok}
 use Rattle.std.specs.List.{range_with_len}
 use Rattle.json_fields.specs.Files.{IsGiven}
 use Rattle.elf_image.specs.Elf.{IsImageOf}

@@ -25,12 +25,7 @@ pub(crate) fn states_of(alloc: Global, count: usize) -> Result<States, Memory>
 }
 
 /// Adds the states of the sets of this size.
-fn put_states(
-    alloc: Global,
-    states: &mut States,
-    sets: &[Flags],
-    size: usize,
-) -> Result<(), Memory>
+fn put_states(alloc: Global, states: &mut States, sets: &[Flags], size: usize) -> Result<(), Memory>
     ensures { OnOk result (states.new
         ≡ states.old ++ map words.state_of (filter (λ set. words.size set == size) sets.now)) }
 {

@@ -48,23 +48,22 @@ steps_coded zero = tt
 steps_coded (suc steps) = (add_coded 5 5 1 (omega arith) (omega arith) (omega arith), steps_coded steps)
 
 tail_coded : (bound : ℕ) → bound < 8 → AllByRecursion IsCoded (tail_of bound)
-tail_coded bound small =
+tail_coded bound small = (
+  add_coded 6 0 (bound + 1) (omega arith) (omega arith) (omega arith),
+  (
+    less_coded 6 6 (omega arith) (omega arith),
     (
-      add_coded 6 0 (bound + 1) (omega arith) (omega arith) (omega arith),
+      back_coded,
       (
-        less_coded 6 6 (omega arith) (omega arith),
+        add_coded 10 0 0 (omega arith) (omega arith) (omega arith),
         (
-          back_coded,
-          (
-            add_coded 10 0 0 (omega arith) (omega arith) (omega arith),
-            (
-              add_coded 17 0 2 (omega arith) (omega arith) (omega arith),
-              (record { fits = record { registers = tt; immediate = tt }; word = omega arith }, tt),
-            ),
-          ),
+          add_coded 17 0 2 (omega arith) (omega arith) (omega arith),
+          (record { fits = record { registers = tt; immediate = tt }; word = omega arith }, tt),
         ),
       ),
-    )
+    ),
+  ),
+)
 
 all_coded : (number entry : ℕ) (tasks : List DemoTask) → Follow number entry tasks → AllByRecursion IsCoded (flat_map code_of tasks)
 all_coded number entry [] follow = tt
@@ -135,8 +134,7 @@ placed_from whole front number entry (task ∷ tasks) coded few is start follow 
     let total : length (flat_map code_of whole) ≡ length front + (length (code_of task) + length rest) =
     ap length is ∙ (length-append front (code_of task ++ rest) ∙ ap (λ n. length front + n) (length-append (code_of task) rest)) in
     let count : length (words_of whole) ≡ length (flat_map code_of whole) = length-map (flat_map code_of whole) word_of_insn in
-    let place_is : (place : ℕ) → at task place ≡ base + 4 * (length front + place) = λ place. omega (arith, here, start) in
-    (
+    let place_is : (place : ℕ) → at task place ≡ base + 4 * (length front + place) = λ place. omega (arith, here, start) in (
       record {
         some = follow.0.some;
         high = omega (arith, here, start, total, size, few);
@@ -148,7 +146,7 @@ placed_from whole front number entry (task ∷ tasks) coded few is start follow 
             (ap (λ xs. slice_get xs (length front + place)) is ∙ (behind_at front (code_of task ++ rest) place ∙ front_at (code_of task) rest place insn stands)));
       },
       placed_from whole (front ++ code_of task) (number + 1) (entry + 4 * size_of task.steps) tasks coded few
-      (is ∙ sym (append_assoc front (code_of task) rest)) (omega (arith, start, length-append front (code_of task), size)) follow.1,
+          (is ∙ sym (append_assoc front (code_of task) rest)) (omega (arith, start, length-append front (code_of task), size)) follow.1,
     )
 
 pub all_placed : (tasks : List DemoTask) → AreDrawn tasks → AllByRecursion (IsPlaced (insn_at (the_image tasks)) (has_word (the_image tasks).code)) tasks

@@ -63,9 +63,9 @@ less_first : (a b : ℕ) (rest : Ordering) → ordering_then (nat_cmp a b) rest 
 less_first a b rest is = elim (cases_lt a b) [
   | inl below ↦ inl below
   | inr le ↦ elim (cases_lt b a) [
-      | inl above ↦ absurd (let greater : Greater ≡ Less = ap (λ o. ordering_then o rest) (nat_cmp_is a b Greater above) ∙ is in no_greater greater)
-      | inr ge ↦ let same : a ≡ b = omega (arith, le, ge) in inr (same, ap (λ o. ordering_then o rest) (nat_cmp_is a b Equal same) ∙ is)
-    ]
+    | inl above ↦ absurd (let greater : Greater ≡ Less = ap (λ o. ordering_then o rest) (nat_cmp_is a b Greater above) ∙ is in no_greater greater)
+    | inr ge ↦ let same : a ≡ b = omega (arith, le, ge) in inr (same, ap (λ o. ordering_then o rest) (nat_cmp_is a b Equal same) ∙ is)
+  ]
 ]
   where
     no_greater : Greater ≡ Less → ⊥

@@ -7,3 +7,4 @@ pub mod Plant
 pub mod Listing
 pub mod Simple
 pub mod Closing
+pub mod Given

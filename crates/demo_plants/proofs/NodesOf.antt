@@ -161,9 +161,9 @@ branch_good program tasks node word here begins later quiet quiet' covered next 
       fault = rw (word, here, begins, quiet, quiet', lt-leb (following node.address) node.address later, covered)
           (none_either (nat_le (moved node.address (negsuc 3)) node.address));
       stays = λ number edge to leaves arrives. elim (either_edge (edges_of program.code node) untaken taken edge number edges leaves) [
-          | inl is ↦ leads_to tasks untaken edge (next_node node) to is refl arrives next
-          | inr is ↦ leads_to tasks taken edge target to is refl arrives again
-        ];
+        | inl is ↦ leads_to tasks untaken edge (next_node node) to is refl arrives next
+        | inr is ↦ leads_to tasks taken edge target to is refl arrives again
+      ];
     }
 
 -- a node at the call that ends a task

@@ -3,5 +3,8 @@
 #![tactic(auto)]
 
 mod laws;
+mod reading;
 
 pub use laws::{states_are_closed, systems_have_plants};
+pub use listed::Memory;
+pub use reading::{Generated, read_generated};

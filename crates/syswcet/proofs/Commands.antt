@@ -6,6 +6,9 @@ use Rattle.command_steps.proofs.Honest.{IsHonest, judged}
 use Rattle.reports.specs.Refusals.{words_refusal}
 use Rattle.bound_commands.proofs.Honest.{check_honest, bound_honest, certify_honest, all_honest}
 use Rattle.show_commands.proofs.Honest.{show_oil_honest, show_code_honest, replay_honest}
+use Rattle.loops_command.proofs.Honest.{loops_honest}
+use Rattle.split_commands.proofs.Honest.{split_check_honest}
+use Rattle.trace_commands.proofs.Honest.{trace_record_honest, trace_judge_honest}
 use Rattle.syswcet.specs.declared.words.Command.{Command}
 use Rattle.syswcet.specs.declared.words.Command.TheVariants as command
 use Rattle.syswcet.specs.Commands.{files_of, StepsOf}
@@ -21,3 +24,11 @@ honest outside reads (Some (command.All oil elf timing states)) = all_honest out
 honest outside reads (Some (command.ShowOil oil)) = show_oil_honest outside reads oil
 honest outside reads (Some (command.ShowCode oil elf timing)) = show_code_honest outside reads oil elf timing
 honest outside reads (Some (command.Replay oil elf timing schedule)) = replay_honest outside reads oil elf timing schedule
+honest outside reads (Some (command.Loops oil elf timing task states)) = loops_honest outside reads oil elf timing task states
+honest outside reads (Some (command.SplitFind oil elf timing task states bound cuts)) = judged outside (files_of (Some (command.SplitFind oil elf timing task states bound cuts))) (λ given. given ≡ Err words_refusal)
+honest outside reads (Some (command.SplitCheck oil elf timing task certificate)) =
+    split_check_honest outside reads oil elf timing task certificate
+honest outside reads (Some (command.TraceRecord oil elf timing schedule)) = trace_record_honest outside reads oil elf timing schedule
+honest outside reads (Some (command.TraceJudge oil elf timing task certificate trace)) =
+    trace_judge_honest outside reads oil elf timing task certificate trace
+honest outside reads (Some (command.Demo seed tasks)) = judged outside (files_of (Some (command.Demo seed tasks))) (λ given. given ≡ Err words_refusal)

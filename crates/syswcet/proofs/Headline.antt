@@ -22,6 +22,9 @@ use Rattle.show_commands.specs.ShowCode.{ShowCode}
 use Rattle.show_commands.specs.ShowOil.{ShowOil}
 use Rattle.bound_commands.specs.Solving.{Bound, Certify}
 use Rattle.bound_commands.proofs.Headline.{check_says, bound_says, certify_says, all_says}
+use Rattle.loops_command.proofs.Headline.{loops_says}
+use Rattle.split_commands.proofs.Headline.{split_check_says}
+use Rattle.trace_commands.proofs.Headline.{trace_record_says, trace_judge_says}
 use Rattle.show_commands.proofs.Headline.{show_oil_says, show_code_says, replay_says}
 
 -- ---- all commands
@@ -41,6 +44,16 @@ truly outside reads start (Some (command.ShowOil oil)) text after steps = show_o
 truly outside reads start (Some (command.ShowCode oil elf timing)) text after steps = show_code_says outside reads start oil elf timing text after steps
 truly outside reads start (Some (command.Replay oil elf timing schedule)) text after steps =
     replay_says outside reads start oil elf timing schedule text after steps
+truly outside reads start (Some (command.Loops oil elf timing task states)) text after steps =
+    loops_says outside reads start oil elf timing task states text after steps
+truly outside reads start (Some (command.SplitFind oil elf timing task states bound cuts)) text after steps = cc (steps.1)
+truly outside reads start (Some (command.SplitCheck oil elf timing task certificate)) text after steps =
+    split_check_says outside reads start oil elf timing task certificate text after steps
+truly outside reads start (Some (command.TraceRecord oil elf timing schedule)) text after steps =
+    trace_record_says outside reads start oil elf timing schedule text after steps
+truly outside reads start (Some (command.TraceJudge oil elf timing task certificate trace)) text after steps =
+    trace_judge_says outside reads start oil elf timing task certificate trace text after steps
+truly outside reads start (Some (command.Demo seed tasks)) text after steps = cc (steps.1)
 
 stepped : {F : Type 0} (calls : Calls F) (command : Option Command) (start : F) (answered : Result (List ℕ) Halt) (text : List ℕ) (after : F)
     → answered ≡ Ok text

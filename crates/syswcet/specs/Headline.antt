@@ -10,8 +10,11 @@ use Rattle.reports.specs.Verdicts.{yes_text}
 use Rattle.reports.specs.Solved.{bound_text}
 use Rattle.inputs.specs.Meaning.{AreBytesOf, OfSystem, BoundsSubject}
 use Rattle.inputs.specs.Subjects.{name_of}
+use Rattle.inputs.specs.declared.subjects.Subject.TheVariants.{Named}
 use Rattle.bound_commands.specs.Bounded.{BoundsAll, HasBound}
 use Rattle.show_commands.specs.Shown.{ShowsLayout, ShowsCode, ReplaysSchedule}
+use Rattle.loops_command.specs.Meaning.{BoundsByCode}
+use Rattle.trace_commands.specs.Meaning.{RecordsRun, JudgesFit}
 use Rattle.syswcet.specs.declared.words.Command.{Command}
 use Rattle.syswcet.specs.declared.words.Command.TheVariants as command
 
@@ -30,6 +33,15 @@ SaysTruly Bytes (Some (command.ShowOil oil)) text = (bytes : List ℕ) × Bytes 
 SaysTruly Bytes (Some (command.ShowCode oil elf timing)) text = OfSystem Bytes oil elf timing (ShowsCode text)
 SaysTruly Bytes (Some (command.Replay oil elf timing schedule)) text =
     (s : List ℕ) × Bytes schedule s × OfSystem Bytes oil elf timing (ReplaysSchedule s text)
+SaysTruly Bytes (Some (command.Loops oil elf timing task states)) text = OfSystem Bytes oil elf timing (BoundsByCode task text)
+SaysTruly Bytes (Some (command.SplitFind oil elf timing task states bound cuts)) text = ⊥
+SaysTruly Bytes (Some (command.SplitCheck oil elf timing task certificate)) text =
+    (bound : ℕ) × (text ≡ yes_text task bound) × BoundsSubject Bytes (Named oil elf timing task) bound
+SaysTruly Bytes (Some (command.TraceRecord oil elf timing schedule)) text =
+    (s : List ℕ) × Bytes schedule s × OfSystem Bytes oil elf timing (RecordsRun s text)
+SaysTruly Bytes (Some (command.TraceJudge oil elf timing task certificate trace)) text =
+    (b : List ℕ) × Bytes trace b × OfSystem Bytes oil elf timing (JudgesFit task b text)
+SaysTruly Bytes (Some (command.Demo seed tasks)) text = ⊥
 
 -- A text was written whole, and it says what the command is for.
 abbrev pub Means : {F : Type 0} → (F → FilesOutside) → Calls F → F → Option Command → SinkOutside → SinkOutside → Type 0

@@ -6,7 +6,7 @@ use Rattle.std.specs.Option.{option_map}
 use Rattle.std.specs.Str.Parse.{digits_value}
 use Rattle.bound_commands.specs.Solving.{usual_pivots}
 use Rattle.syswcet.specs.declared.words.Command.{Command}
-use Rattle.syswcet.specs.declared.words.Command.TheVariants.{Check, Bound, Certify, All, ShowOil, ShowCode, Replay}
+use Rattle.syswcet.specs.declared.words.Command.TheVariants.{Check, Bound, Certify, All, ShowOil, ShowCode, Replay, Loops, SplitFind, SplitCheck, TraceRecord, TraceJudge, Demo}
 use Rattle.inputs.specs.declared.subjects.Subject.{Subject}
 use Rattle.inputs.specs.declared.subjects.Subject.TheVariants.{Lone, Named}
 
@@ -33,12 +33,16 @@ is_number text = nat_lt 0 (length text) && nat_le (length text) 10 && list_all i
 abbrev pub number_of : List ℕ → Option ℕ
 number_of text = if is_number text then Some (digits_value 10 text) else None
 
--- a limit on pivots, from 1 to 10,000,000
-abbrev pub pivots_within : ℕ → Option ℕ
-pivots_within n = if nat_le 1 n && nat_le n 10000000 then Some n else None
+-- the number that a text writes, where it lies from `low` to `high`
+abbrev pub within : ℕ → ℕ → ℕ → Option ℕ
+within low high n = if nat_le low n && nat_le n high then Some n else None
 
+abbrev pub number_within : ℕ → ℕ → List ℕ → Option ℕ
+number_within low high text = option_and_then (within low high) (number_of text)
+
+-- a limit on pivots
 abbrev pub pivots_of : List ℕ → Option ℕ
-pivots_of text = option_and_then pivots_within (number_of text)
+pivots_of text = number_within 1 10000000 text
 
 -- ---- what is analysed: behind the command's name stands `lone IMAGE`, or else `OIL ELF TIMING TASK`
 
@@ -92,6 +96,53 @@ show_code words = ShowCode (word words 2) (word words 3) (word words 4)
 abbrev pub replay : List (List ℕ) → Command
 replay words = Replay (word words 1) (word words 2) (word words 3) (word words 4)
 
+abbrev pub loops : List (List ℕ) → Command
+loops words = Loops (word words 1) (word words 2) (word words 3) (word words 4) (word words 5)
+
+abbrev pub split_check : List (List ℕ) → Command
+split_check words = SplitCheck (word words 2) (word words 3) (word words 4) (word words 5) (word words 6)
+
+abbrev pub trace_record : List (List ℕ) → Command
+trace_record words = TraceRecord (word words 2) (word words 3) (word words 4) (word words 5)
+
+abbrev pub trace_judge : List (List ℕ) → Command
+trace_judge words = TraceJudge (word words 2) (word words 3) (word words 4) (word words 5) (word words 6) (word words 7)
+
+-- ---- a search of a certificate of cuts: `--cuts C` may stand behind the bound, and nothing else
+
+-- the limit on cuts where the words name none
+abbrev pub usual_cuts : ℕ
+usual_cuts = 64
+
+-- the limit on cuts that the words behind the bound set
+abbrev pub cuts_of : List (List ℕ) → Option ℕ
+cuts_of words =
+    if length words == 8 then Some usual_cuts
+    else (if (length words == 10) && has_word words 8 (codes "--cuts") then number_within 1 100 (word words 9) else None)
+
+abbrev pub split_find : List (List ℕ) → ℕ → ℕ → Command
+split_find words cuts bound = SplitFind (word words 2) (word words 3) (word words 4) (word words 5) (word words 6) bound cuts
+
+-- the search with so many cuts, where a bound is named
+abbrev pub split_within : List (List ℕ) → ℕ → Option Command
+split_within words cuts = option_map (split_find words cuts) (number_of (word words 7))
+
+-- `split check`, or `split find`
+abbrev pub split_of : List (List ℕ) → Option Command
+split_of words =
+    if is_shape words (codes "split") (codes "check") 7 then Some (split_check words)
+    else (if has_word words 1 (codes "find") then option_and_then (split_within words) (cuts_of words) else None)
+
+-- ---- a generated system, by a seed below 2^32 and the number of its tasks
+
+abbrev pub demo_with : List (List ℕ) → ℕ → Option Command
+demo_with words seed = option_map (Demo seed) (number_within 1 8 (word words 2))
+
+abbrev pub demo : List (List ℕ) → Option Command
+demo words = option_and_then (demo_with words) (number_within 0 4294967295 (word words 1))
+
+-- ---- all of them
+
 -- What the words ask for:
 --
 --   check OIL ELF TIMING TASK CERT                       check lone IMAGE CERT
@@ -101,6 +152,10 @@ replay words = Replay (word words 1) (word words 2) (word words 3) (word words 4
 --   show oil OIL
 --   show code OIL ELF TIMING
 --   replay OIL ELF TIMING SCHEDULE
+--   loops OIL ELF TIMING TASK STATES
+--   split find OIL ELF TIMING TASK STATES N [--cuts C]   split check OIL ELF TIMING TASK CERT
+--   trace record OIL ELF TIMING SCHEDULE                 trace judge OIL ELF TIMING TASK CERT TRACE
+--   demo SEED TASKS
 abbrev pub command_of : List (List ℕ) → Option Command
 command_of words =
     if has_word words 0 (codes "check") then (if is_last words then Some (check words) else None)
@@ -110,7 +165,12 @@ command_of words =
     else (if is_shape words (codes "show") (codes "oil") 3 then Some (show_oil words)
     else (if is_shape words (codes "show") (codes "code") 5 then Some (show_code words)
     else (if is_single words (codes "replay") 5 then Some (replay words)
-    else None))))))
+    else (if is_single words (codes "loops") 6 then Some (loops words)
+    else (if has_word words 0 (codes "split") then split_of words
+    else (if is_shape words (codes "trace") (codes "record") 6 then Some (trace_record words)
+    else (if is_shape words (codes "trace") (codes "judge") 8 then Some (trace_judge words)
+    else (if is_single words (codes "demo") 3 then demo words
+    else None)))))))))))
 
 -- ---- worked cases
 
@@ -149,3 +209,28 @@ show_oil_case = refl
 replay_case : command_of (codes "replay" ∷ codes "o" ∷ codes "e" ∷ codes "t" ∷ codes "s" ∷ []) ≡ Some
     (Replay (codes "o") (codes "e") (codes "t") (codes "s"))
 replay_case = refl
+
+split_find_case : command_of
+    (codes "split" ∷ codes "find" ∷ codes "o" ∷ codes "e" ∷ codes "t" ∷ codes "T" ∷ codes "k" ∷ codes "127" ∷ []) ≡ Some
+    (SplitFind (codes "o") (codes "e") (codes "t") (codes "T") (codes "k") 127 64)
+split_find_case = refl
+
+cuts_case : command_of
+    (codes "split" ∷ codes "find" ∷ codes "o" ∷ codes "e" ∷ codes "t" ∷ codes "T" ∷ codes "k" ∷ codes "127" ∷ codes "--cuts" ∷ codes "3" ∷ []) ≡ Some
+    (SplitFind (codes "o") (codes "e") (codes "t") (codes "T") (codes "k") 127 3)
+cuts_case = refl
+
+too_many_cuts_case : command_of
+    (codes "split" ∷ codes "find" ∷ codes "o" ∷ codes "e" ∷ codes "t" ∷ codes "T" ∷ codes "k" ∷ codes "127" ∷ codes "--cuts" ∷ codes "101" ∷ []) ≡ None
+too_many_cuts_case = refl
+
+trace_judge_case : command_of
+    (codes "trace" ∷ codes "judge" ∷ codes "o" ∷ codes "e" ∷ codes "t" ∷ codes "T" ∷ codes "c" ∷ codes "r" ∷ []) ≡ Some
+    (TraceJudge (codes "o") (codes "e") (codes "t") (codes "T") (codes "c") (codes "r"))
+trace_judge_case = refl
+
+demo_case : command_of (codes "demo" ∷ codes "4294967295" ∷ codes "8" ∷ []) ≡ Some (Demo 4294967295 8)
+demo_case = refl
+
+no_tasks_case : command_of (codes "demo" ∷ codes "1" ∷ codes "0" ∷ []) ≡ None
+no_tasks_case = refl

@@ -11,9 +11,12 @@ use crate::words::{Command, command_of};
 use bound_commands::{all_bounds, bounded, certified, checked};
 use command_steps::{Halt, Status, report};
 use listed::Memory;
+use loops_command::loop_bounds;
 use reports::words_refusal;
 use show_commands::{replayed, show_code, show_oil};
+use split_commands::split_checked;
 use std::alloc::Global;
+use trace_commands::{trace_judged, trace_recorded};
 use wcet_io::{Bytes, Files, Sink, SureFiles, SureSink, Words};
 
 /// Runs one command: `words` are those of the command line without the program's name, files are
@@ -95,5 +98,35 @@ fn answer_command<F: Files>(alloc: Global, command: &Command, files: &mut F) -> 
             timing,
             schedule,
         } => replayed(alloc, oil, elf, timing, schedule, files),
+        Command::Loops {
+            oil,
+            elf,
+            timing,
+            task,
+            states,
+        } => loop_bounds(alloc, oil, elf, timing, task, states, files),
+        Command::SplitFind { .. } => no_command(alloc),
+        Command::SplitCheck {
+            oil,
+            elf,
+            timing,
+            task,
+            certificate,
+        } => split_checked(alloc, oil, elf, timing, task, certificate, files),
+        Command::TraceRecord {
+            oil,
+            elf,
+            timing,
+            schedule,
+        } => trace_recorded(alloc, oil, elf, timing, schedule, files),
+        Command::TraceJudge {
+            oil,
+            elf,
+            timing,
+            task,
+            certificate,
+            trace,
+        } => trace_judged(alloc, oil, elf, timing, task, certificate, trace, files),
+        Command::Demo { .. } => no_command(alloc),
     }
 }

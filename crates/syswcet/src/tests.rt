@@ -390,3 +390,47 @@ fn the_code_of_a_system_is_shown(rt: HostRuntime) -> Result<(), Fail> {
     }
     Ok(())
 }
+
+/// The recording of the run in which the alarm arrives at moment 2.
+const RECORDING: &str =
+    r#"{"end":75,"events":[["arrive",2,"Tick"],["take",2,32,"Tick"],["service",34,54,"H",[],280],["service",55,75,"T",[],268]],"mode":"Main"}"#;
+
+/// The same with the end of the line.
+const RECORDING_LINE: &str =
+    "{\"end\":75,\"events\":[[\"arrive\",2,\"Tick\"],[\"take\",2,32,\"Tick\"],[\"service\",34,54,\"H\",[],280],[\"service\",55,75,\"T\",[],268]],\"mode\":\"Main\"}\n";
+
+/// Without the alarm's step.
+const NOTHING_TAKEN: &str =
+    r#"{"end":75,"events":[["arrive",2,"Tick"],["service",34,54,"H",[],280],["service",55,75,"T",[],268]],"mode":"Main"}"#;
+
+/// With an arrival 898 cycles behind the first one.
+const ARRIVED_AGAIN: &str =
+    r#"{"end":75,"events":[["arrive",2,"Tick"],["arrive",900,"Tick"],["take",2,32,"Tick"],["service",34,54,"H",[],280],["service",55,75,"T",[],268]],"mode":"Main"}"#;
+
+#[test]
+#[rattlefmt::skip]
+fn runs_are_recorded_and_recordings_judged(rt: HostRuntime) -> Result<(), Fail> {
+    for (words, trace, text, status) in [
+        ("trace record oil elf times p", "", RECORDING_LINE, Status::Ok),
+        ("trace judge oil elf times T c r", RECORDING, "fits\n", Status::Ok),
+        ("trace judge oil elf times T c r", NOTHING_TAKEN, "walk 1\n", Status::No),
+        ("trace judge oil elf times T c r", ARRIVED_AGAIN, "close 1\n", Status::No),
+        ("trace judge oil elf times T c r", r#"{"end":134,"events":[],"mode":"Main"}"#, "over 0\n", Status::No),
+        ("trace judge oil elf times T c r", r#"{"end":1,"events":[],"mode":"X"}"#, "trace Name\n", Status::Input),
+        ("trace judge oil elf times H c r", "{", "cert Task\n", Status::Input),
+        ("trace judge oil elf times T c", "", "words\n", Status::Words),
+    ] {
+        let held = [
+            ("oil", TWO_TASKS.as_bytes()),
+            ("elf", TWO_TASKS_ELF.as_slice()),
+            ("times", TWO_TASKS_TIMES.as_bytes()),
+            ("p", r#"{"mode":"Main","end":10000,"arrivals":[{"at":2,"source":"Tick"}]}"#.as_bytes()),
+            ("c", TWO_TASKS_GOOD.as_bytes()),
+            ("r", trace.as_bytes()),
+        ];
+        let (ended, out) = outcome(rt.alloc(), words, &held, Failing::Nothing)?;
+        assert_eq!(rt; ended, status);
+        assert_eq!(rt; out.written(), text.as_bytes());
+    }
+    Ok(())
+}

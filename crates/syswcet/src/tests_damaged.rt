@@ -22,6 +22,7 @@ const ONE_LOOP: &str =
     r#"{"version":1,"classes":{"default":1},"services":{"default":10},"alarm":10,"interrupt":10,"distances":{"I":100000},"loops":[{"from":"0x10c","to":"0x110","bound":4}]}"#;
 
 /// Which reads and writes fail, by number.
+#[derive(Clone, Copy)]
 struct Failing<'a> {
     reads: &'a [u64],
     writes: &'a [u64],
@@ -222,8 +223,8 @@ fn a_cut_oil_file_ends_too_early(rt: HostRuntime) -> Result<(), Fail> {
         let (ended, out) = outcome(rt.alloc(), "show oil a", &held, &NOTHING)?;
         assert_eq!(rt; ended, Status::Input);
         let line = last_line(&cut);
-        let expected = format!(rt.alloc(), "oil line {line} Expected\n")?;
-        let text = format!(rt.alloc(), "oil line {line} Text\n")?;
+        let expected = format!(in rt.alloc(); "oil line {line} Expected\n")?;
+        let text = format!(in rt.alloc(); "oil line {line} Text\n")?;
         assert!(rt; out.written() == expected.as_bytes() || out.written() == text.as_bytes());
     }
     Ok(())
@@ -238,8 +239,8 @@ fn long_file(alloc: Global) -> Result<(String, String), Memory> {
         "OIL_VERSION = \"2.5\";\nCPU A {\n  APPMODE M {\n  };\n  TASK T {\n    PRIORITY = 1;\n  };\n",
     )?;
     for number in 100..400_u32 {
-        file.push_str(&format!(alloc, "OS O{number};")?)?;
-        layout.push_str(&format!(alloc, "  OS O{number} {{\n  }};\n")?)?;
+        file.push_str(&format!(in alloc; "OS O{number};")?)?;
+        layout.push_str(&format!(in alloc; "  OS O{number} {{\n  }};\n")?)?;
     }
     file.push_str("};")?;
     layout.push_str("};\n")?;

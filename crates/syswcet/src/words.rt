@@ -1,5 +1,5 @@
 //! What the command words ask for.
-ghost use Rattle.std.specs.Prelude.{◌≡◌, ◌<◌, ◌≤◌, ◌&&◌, if◌then◌else◌, nat_lt, nat_le, length, bytes_eq, Some, None, IfOk, IfSome};
+ghost use Rattle.std.specs.Prelude.{◌≡◌, ◌<◌, ◌≤◌, ◌&&◌, if◌then◌else◌, nat_lt, nat_le, length, bytes_eq, Some, None, IfOk, IfSome, option_and_then};
 ghost use Rattle.std.specs.Char.{is_ascii_digit};
 ghost use Rattle.std.specs.List.{list_all};
 ghost use Rattle.std.specs.Option.{option_map};
@@ -15,6 +15,16 @@ use wcet_io::{Text, Words};
 
 /// The greatest limit on pivots that the words may name.
 const MOST_PIVOTS: u64 = 10_000_000;
+
+/// The limit on cuts where the words name none, and the greatest that they may name.
+const USUAL_CUTS: u32 = 64;
+
+const MOST_CUTS: u64 = 100;
+
+/// The greatest seed, and the greatest number of generated tasks.
+const MOST_SEED: u64 = 4_294_967_295;
+
+const MOST_TASKS: u64 = 8;
 
 /// A command, with its files by name.
 #[derive(Debug, Drop)]
@@ -61,6 +71,54 @@ pub enum Command {
         timing: Text,
         schedule: Text,
     },
+    /// `loops` finds the bounds of counted loops, and bounds a task with them.
+    Loops {
+        oil: Text,
+        elf: Text,
+        timing: Text,
+        task: Text,
+        states: Text,
+    },
+    /// `split find` searches a certificate of cuts for a bound in cycles, with at most that many
+    /// cuts, which `--cuts C` sets.
+    SplitFind {
+        oil: Text,
+        elf: Text,
+        timing: Text,
+        task: Text,
+        states: Text,
+        bound: u64,
+        cuts: u32,
+    },
+    /// `split check` judges a certificate of cuts.
+    SplitCheck {
+        oil: Text,
+        elf: Text,
+        timing: Text,
+        task: Text,
+        certificate: Text,
+    },
+    /// `trace record` writes the recording of the run that a schedule plays.
+    TraceRecord {
+        oil: Text,
+        elf: Text,
+        timing: Text,
+        schedule: Text,
+    },
+    /// `trace judge` judges a recording by a certificate.
+    TraceJudge {
+        oil: Text,
+        elf: Text,
+        timing: Text,
+        task: Text,
+        certificate: Text,
+        trace: Text,
+    },
+    /// `demo` makes a system of that many tasks from a seed, and bounds each of them.
+    Demo {
+        seed: u32,
+        tasks: usize,
+    },
 }
 
 /// The command of the words; `None` exactly where they have no shape.
@@ -87,6 +145,21 @@ pub fn command_of(alloc: Global, words: &Words) -> Result<Option<Command>, Memor
     }
     if is_single(words, "replay", 5) {
         return replay(alloc, words);
+    }
+    if is_single(words, "loops", 6) {
+        return loops(alloc, words);
+    }
+    if has_word(words, 0, "split") {
+        return split_of(alloc, words);
+    }
+    if is_shape(words, "trace", "record", 6) {
+        return trace_record(alloc, words);
+    }
+    if is_shape(words, "trace", "judge", 8) {
+        return trace_judge(alloc, words);
+    }
+    if is_single(words, "demo", 3) {
+        return Ok(demo(words));
     }
     Ok(None)
 }
@@ -191,6 +264,200 @@ fn replay(alloc: Global, words: &Words) -> Result<Option<Command>, Memory>
         timing,
         schedule,
     }))
+}
+
+fn loops(alloc: Global, words: &Words) -> Result<Option<Command>, Memory>
+    requires { length words.now ≡ 6 }
+    ensures { IfOk result (λ command. command ≡ Some (shapes.loops words.now)) }
+{
+    let oil = word(alloc, words, 1)?;
+    let elf = word(alloc, words, 2)?;
+    let timing = word(alloc, words, 3)?;
+    let task = word(alloc, words, 4)?;
+    let states = word(alloc, words, 5)?;
+    Ok(Some(Command::Loops {
+        oil,
+        elf,
+        timing,
+        task,
+        states,
+    }))
+}
+
+/// `split check`, or `split find`.
+fn split_of(alloc: Global, words: &Words) -> Result<Option<Command>, Memory>
+    ensures { IfOk result (λ command. command ≡ shapes.split_of words.now) }
+{
+    if is_shape(words, "split", "check", 7) {
+        return split_check(alloc, words);
+    }
+    if has_word(words, 1, "find") {
+        return split_find(alloc, words);
+    }
+    Ok(None)
+}
+
+fn split_check(alloc: Global, words: &Words) -> Result<Option<Command>, Memory>
+    requires { length words.now ≡ 7 }
+    ensures { IfOk result (λ command. command ≡ Some (shapes.split_check words.now)) }
+{
+    let oil = word(alloc, words, 2)?;
+    let elf = word(alloc, words, 3)?;
+    let timing = word(alloc, words, 4)?;
+    let task = word(alloc, words, 5)?;
+    let certificate = word(alloc, words, 6)?;
+    Ok(Some(Command::SplitCheck {
+        oil,
+        elf,
+        timing,
+        task,
+        certificate,
+    }))
+}
+
+/// The search, if the words name a bound and set a limit on cuts.
+fn split_find(alloc: Global, words: &Words) -> Result<Option<Command>, Memory>
+    ensures { IfOk result (λ command. command
+        ≡ option_and_then (shapes.split_within words.now) (shapes.cuts_of words.now)) }
+{
+    match cuts_of(words) {
+        Some(cuts) => split_within(alloc, words, cuts),
+        None => Ok(None),
+    }
+}
+
+fn split_within(alloc: Global, words: &Words, cuts: u32) -> Result<Option<Command>, Memory>
+    requires { 7 < length words.now }
+    ensures { IfOk result (λ command. command ≡ shapes.split_within words.now cuts) }
+{
+    match number_of(words.get(7).as_str()) {
+        Some(bound) => search_for(alloc, words, bound, cuts),
+        None => Ok(None),
+    }
+}
+
+fn search_for(
+    alloc: Global,
+    words: &Words,
+    bound: u64,
+    cuts: u32,
+) -> Result<Option<Command>, Memory>
+    requires { 7 < length words.now }
+    ensures { IfOk result (λ command. command ≡ Some (shapes.split_find words.now cuts bound)) }
+{
+    let oil = word(alloc, words, 2)?;
+    let elf = word(alloc, words, 3)?;
+    let timing = word(alloc, words, 4)?;
+    let task = word(alloc, words, 5)?;
+    let states = word(alloc, words, 6)?;
+    Ok(Some(Command::SplitFind {
+        oil,
+        elf,
+        timing,
+        task,
+        states,
+        bound,
+        cuts,
+    }))
+}
+
+/// The limit on cuts that the words behind the bound set, if they set one.
+fn cuts_of(words: &Words) -> Option<u32>
+    ensures limit { result ≡ shapes.cuts_of words.now }
+    ensures behind { IfSome result (λ _. 7 < length words.now) }
+{
+    if words.len() == 8 {
+        return Some(USUAL_CUTS);
+    }
+    if words.len() == 10 && has_word(words, 8, "--cuts") {
+        return most_cuts(words.get(9));
+    }
+    None
+}
+
+/// The limit on cuts that a word names, if it names one.
+fn most_cuts(word: &Text) -> Option<u32>
+    ensures { result ≡ shapes.number_within 1 100 word.now }
+{
+    match number_within(word, 1, MOST_CUTS) {
+        Some(cuts) => Some(cuts as u32),
+        None => None,
+    }
+}
+
+fn trace_record(alloc: Global, words: &Words) -> Result<Option<Command>, Memory>
+    requires { length words.now ≡ 6 }
+    ensures { IfOk result (λ command. command ≡ Some (shapes.trace_record words.now)) }
+{
+    let oil = word(alloc, words, 2)?;
+    let elf = word(alloc, words, 3)?;
+    let timing = word(alloc, words, 4)?;
+    let schedule = word(alloc, words, 5)?;
+    Ok(Some(Command::TraceRecord {
+        oil,
+        elf,
+        timing,
+        schedule,
+    }))
+}
+
+fn trace_judge(alloc: Global, words: &Words) -> Result<Option<Command>, Memory>
+    requires { length words.now ≡ 8 }
+    ensures { IfOk result (λ command. command ≡ Some (shapes.trace_judge words.now)) }
+{
+    let oil = word(alloc, words, 2)?;
+    let elf = word(alloc, words, 3)?;
+    let timing = word(alloc, words, 4)?;
+    let task = word(alloc, words, 5)?;
+    let certificate = word(alloc, words, 6)?;
+    let trace = word(alloc, words, 7)?;
+    Ok(Some(Command::TraceJudge {
+        oil,
+        elf,
+        timing,
+        task,
+        certificate,
+        trace,
+    }))
+}
+
+/// The generated system, if the words name a seed and a number of tasks.
+fn demo(words: &Words) -> Option<Command>
+    requires { length words.now ≡ 3 }
+    ensures { result ≡ shapes.demo words.now }
+{
+    match seed_in(words.get(1)) {
+        Some(seed) => demo_with(words, seed),
+        None => None,
+    }
+}
+
+fn demo_with(words: &Words, seed: u32) -> Option<Command>
+    requires { length words.now ≡ 3 }
+    ensures { result ≡ shapes.demo_with words.now seed }
+{
+    match tasks_in(words.get(2)) {
+        Some(tasks) => Some(Command::Demo { seed, tasks }),
+        None => None,
+    }
+}
+
+fn seed_in(word: &Text) -> Option<u32>
+    ensures { result ≡ shapes.number_within 0 4294967295 word.now }
+{
+    match number_within(word, 0, MOST_SEED) {
+        Some(seed) => Some(seed as u32),
+        None => None,
+    }
+}
+
+fn tasks_in(word: &Text) -> Option<usize>
+    ensures { result ≡ shapes.number_within 1 8 word.now }
+{
+    match number_within(word, 1, MOST_TASKS) {
+        Some(tasks) => Some(tasks as usize),
+        None => None,
+    }
 }
 
 /// What the words analyse.
@@ -321,9 +588,20 @@ fn is(word: &Text, text: &str) -> bool
 fn pivots_of(word: &Text) -> Option<u32>
     ensures { result ≡ shapes.pivots_of word.now }
 {
-    let pivots = number_of(word.as_str())?;
-    if 1 <= pivots && pivots <= MOST_PIVOTS {
-        Some(pivots as u32)
+    match number_within(word, 1, MOST_PIVOTS) {
+        Some(pivots) => Some(pivots as u32),
+        None => None,
+    }
+}
+
+/// The number that a word writes, where it lies from `low` to `high`.
+fn number_within(word: &Text, low: u64, high: u64) -> Option<u64>
+    ensures number { result ≡ shapes.number_within low high word.now }
+    ensures most { IfSome result (λ n. n ≤ high) }
+{
+    let number = number_of(word.as_str())?;
+    if low <= number && number <= high {
+        Some(number)
     } else {
         None
     }

@@ -1,8 +1,7 @@
 -- Followers in code, event by event.
-use Rattle.std.proofs.Common.{◌≡◌, ℕ, zero, suc, ◌+◌, ◌<◌, ◌||◌, Bool, true, false, cond, List, [], ◌∷◌, length, drop, get_or, Option, Some, None, refl, sym, ap, ◌∙◌, subst, arith}
-use Rattle.std.specs.Prelude.{is_none, not, option_and_then, option_map, slice_get, slice_index_or, slice_set, find, IfSome, unwrap_or}
+use Rattle.std.proofs.Common.{◌≡◌, ℕ, zero, suc, ◌+◌, ◌<◌, false, List, [], ◌∷◌, length, drop, get_or, Option, Some, None, refl, sym, ap, ◌∙◌, subst, arith}
+use Rattle.std.specs.Prelude.{option_and_then, option_map, slice_get, slice_set, find, IfSome, unwrap_or}
 use Rattle.std.specs.List.{AllByRecursion}
-use Rattle.std.specs.Option.{option_map_or}
 use Rattle.std.proofs.lemmas.List.{length-set}
 use Rattle.wcet_atomic_blocks.specs.Plants.{PlantData}
 use Rattle.abstract_sched.specs.declared.states.AbsState.{AbsState}
@@ -13,12 +12,12 @@ use Rattle.trace_check.specs.declared.follower.Follower as code
 use Rattle.trace_check.specs.declared.tables.Step.{Step}
 use Rattle.trace_check.specs.declared.tables.Tables.{Tables}
 use Rattle.trace_check.specs.declared.trace.Event.{Event}
-use Rattle.trace_check.specs.declared.trace.Event.TheVariants.{Arrive, Take, Service}
+use Rattle.trace_check.specs.declared.trace.Event.TheVariants.{Take}
 use Rattle.trace_check.specs.declared.trace.Trace.{Trace}
 use Rattle.trace_check.specs.declared.verdict.TraceVerdict.{TraceVerdict}
 use Rattle.trace_check.specs.Trace.{NamesWhatExists}
-use Rattle.trace_check.specs.Verdict.{Follower, Times, has_wrong_times, isnt_pending, move_of, move_with, node_of, fault_at, followed, verdict_from, verdict_at_end, verdict_of}
-use Rattle.trace_check.specs.Working.Following.{Follows, MovesOn, Goes, Judging, timed_fault, timed_after}
+use Rattle.trace_check.specs.Verdict.{Follower, Times, has_wrong_times, isnt_pending, move_of, move_with, fault_at, followed, verdict_from, verdict_at_end, verdict_of}
+use Rattle.trace_check.specs.Working.Following.{Follows, MovesOn, Goes, Judging, timed_fault}
 use Rattle.trace_check.specs.Working.Tables.{going_of, AreSteps, AreTables}
 use Rattle.trace_check.proofs.Tabling.{step_with, found_listed}
 

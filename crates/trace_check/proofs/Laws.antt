@@ -1,6 +1,6 @@
 -- A trace that is read is lawful.
-use Rattle.std.proofs.Common.{◌≡◌, ℕ, ◌+◌, ◌-◌, ◌^◌, ◌<◌, ◌≤◌, Bool, true, false, cond, List, [], ◌∷◌, ◌++◌, length, map, suc, Option, Some, None, Result, Ok, Err, refl, sym, ap, ◌∙◌, arith}
-use Rattle.std.specs.Prelude.{◌&&◌, IfOk, bytes_eq, is_some, nat_le, ok_or}
+use Rattle.std.proofs.Common.{◌≡◌, ℕ, ◌+◌, ◌-◌, ◌^◌, ◌<◌, ◌≤◌, Bool, true, false, cond, List, [], ◌∷◌, length, map, suc, Option, Some, None, Result, Ok, Err, refl, ap, arith}
+use Rattle.std.specs.Prelude.{◌&&◌, IfOk, bytes_eq, nat_le, ok_or}
 use Rattle.std.specs.List.{AllByRecursion, list_all}
 use Rattle.std.specs.Option.{option_map_or}
 use Rattle.std.proofs.lemmas.Bool.{le-leb, leb-true, and_parts}
@@ -18,11 +18,10 @@ use Rattle.oil_model.specs.declared.system.System.{System}
 use Rattle.trace_check.specs.declared.fault.TraceKind.{TraceKind}
 use Rattle.trace_check.specs.declared.fault.TraceKind.TheVariants as kinds
 use Rattle.trace_check.specs.declared.trace.Event.{Event}
-use Rattle.trace_check.specs.declared.trace.Event.TheVariants as events
 use Rattle.trace_check.specs.Form.{EventParts, Arrive, Take, Service, event_parts, trace_parts}
 use Rattle.trace_check.specs.Text as words
 use Rattle.trace_check.specs.Text.{source_names, context_names, place_named, moment_in, address_in, site_in, event_of, event_in, trace_in}
-use Rattle.trace_check.specs.Trace.{NamesWhatExists, IsOf, IsMoment, IsAddress, IsPlace, IsInLimits, IsLawful}
+use Rattle.trace_check.specs.Trace.{NamesWhatExists, IsMoment, IsAddress, IsInLimits, IsLawful}
 
 -- ---- lists of values that the code tests one by one
 

@@ -9,7 +9,7 @@ use Rattle.abstract_sched.specs.declared.states.AbsState.{AbsState}
 use Rattle.scheduler_moves.specs.Moves.{successors}
 use Rattle.scheduler_moves.specs.declared.moves.Move.{Move}
 use Rattle.scheduler_moves.specs.declared.moves.MoveLabel.{MoveLabel}
-use Rattle.row_build.specs.Columns.{Going, goings_from}
+use Rattle.row_build.specs.Columns.{goings_from}
 use Rattle.row_build.specs.Working.Numbered.{state_at}
 use Rattle.row_build.proofs.States.{state_from, goings_are}
 use Rattle.trace_check.specs.declared.tables.Step.{Step}

@@ -1,24 +1,23 @@
 -- A trace that is written is read again as the same trace.
-use Rattle.std.proofs.Common.{◌≡◌, ℕ, suc, ◌+◌, ◌-◌, ◌^◌, ◌<◌, ◌≤◌, Bool, true, false, List, [], ◌∷◌, ◌++◌, length, map, Option, Some, None, Result, Ok, refl, sym, ap, ◌∙◌, arith, inl}
+use Rattle.std.proofs.Common.{◌≡◌, ℕ, suc, ◌+◌, ◌-◌, ◌^◌, ◌<◌, ◌≤◌, Bool, true, false, List, [], ◌∷◌, ◌++◌, length, map, Some, Ok, refl, ap, ◌∙◌, arith, inl}
 use Rattle.std.proofs.lemmas.Bool.{le-leb}
 use Rattle.std.proofs.lemmas.List.{length-map, length-append}
 use Rattle.std.proofs.lemmas.Str.{IsUtf8-append}
-use Rattle.std.specs.Prelude.{◌&&◌, IsUtf8, is_some, codes}
+use Rattle.std.specs.Prelude.{IsUtf8, is_some}
 use Rattle.std.specs.List.{AllByRecursion, list_all}
 use Rattle.json.proofs.Printed.Utf8.{IsUtf8-are_ascii}
 use Rattle.serde_json.specs.Data.{Data, depth, items_depth}
 use Rattle.serde_json.specs.Read.{read, max_depth}
 use Rattle.serde_json.specs.View.{items_of}
 use Rattle.serde_json.specs.Written.{has_float, items_have_float, compact_text}
-use Rattle.listed.specs.Lists.{each_from, all_of}
+use Rattle.listed.specs.Lists.{each_from}
 use Rattle.json_fields.specs.Files.{IsGiven}
 use Rattle.json_fields.specs.Forms.{is_number}
 use Rattle.json_fields.proofs.Words.{members_of-items_of}
 use Rattle.oil_model.specs.declared.system.System.{System}
 use Rattle.oil_model.specs.System.{IsLawful as IsLawfulSystem}
 use Rattle.certificate.proofs.Newlines.{read-newline}
-use Rattle.certificate.specs.Writing.{number_data, list_data}
-use Rattle.trace_check.specs.declared.fault.TraceKind.{TraceKind}
+use Rattle.certificate.specs.Writing.{number_data}
 use Rattle.trace_check.specs.declared.fault.TraceKind.TheVariants as kinds
 use Rattle.trace_check.specs.declared.trace.Event.{Event}
 use Rattle.trace_check.specs.declared.trace.Event.TheVariants as events

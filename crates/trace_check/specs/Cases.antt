@@ -2,7 +2,7 @@
 use Rattle.std.specs.Prelude.{◌≡◌, ℕ, List, [], ◌∷◌, codes, Ok, Err, refl}
 use Rattle.std.specs.Fmt.{digits}
 use Rattle.json.specs.Print.{escape_byte}
-use Rattle.serde_json.specs.Data.{Data, null, number, unsigned, string, object, member, no_members}
+use Rattle.serde_json.specs.Data.{Data, null, string, object, member, no_members}
 use Rattle.certificate.specs.Writing.{number_data, list_data}
 use Rattle.activation_windows.specs.Samples.Preempted.{plant, system}
 use Rattle.trace_check.specs.declared.fault.TraceKind.TheVariants.{Shape, Range, Name}

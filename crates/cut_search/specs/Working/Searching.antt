@@ -12,7 +12,8 @@ use Rattle.whole_simplex.specs.declared.SolveFault.{SolveFault}
 use Rattle.whole_simplex.specs.declared.SolveFault.TheVariants as solving
 use Rattle.split_trees.specs.Sides.{split_rows}
 use Rattle.split_trees.specs.Good.{IsColumn, IsGoodLeaf}
-use Rattle.split_trees.specs.Tree.{Tree, Leaf, columns_cut, leaves_on}
+use Rattle.split_trees.specs.Lawful.{HasLawfulNumbers}
+use Rattle.split_trees.specs.Tree.{Tree, Leaf, columns_cut, height, leaves_on}
 use Rattle.split_trees.specs.declared.side.Side.{Side}
 use Rattle.cut_search.specs.declared.fault.SplitFault.{SplitFault}
 use Rattle.cut_search.specs.declared.fault.SplitFault.TheVariants as faults
@@ -85,6 +86,11 @@ abbrev pub IsGoodNode : RowsData → ℕ → List Side → Judged → Type 0
 IsGoodNode d bound sides (ways.Leaf denominator multipliers) = IsGoodLeaf d bound (record { sides = sides; denominator = denominator; multipliers = multipliers })
 IsGoodNode d bound sides (ways.Cut place) = Unit {0}
 
+-- its numbers are within the limits of a certificate; where a column is cut, it is within them too
+abbrev pub IsLawfulNode : RowsData → Judged → Type 0
+IsLawfulNode d (ways.Leaf denominator multipliers) = HasLawfulNumbers (Leaf denominator multipliers)
+IsLawfulNode d (ways.Cut place) = 0 < length d.rows → length d.costs < 2 ^ 32
+
 -- a ray is one of the node's rows, whose outcome it is
 abbrev pub IsNodeRay : RowsData → List Limits → SplitFault → Type 0
 IsNodeRay d limits (faults.Solve (solving.Unbounded ray)) = (outcome_of (node_rows d limits) pivot_limit ≡ Direction ray) × IsUnbounded (node_rows d limits) ray
@@ -96,6 +102,11 @@ IsNodeRay d limits fault = Unit {0}
 pub record IsGoodPart (d : RowsData) (bound : ℕ) (sides : List Side) (tree : Tree) : Type 0 where
   pub columns : All (IsColumn d) (columns_cut tree)
   pub leaves : All (IsGoodLeaf d bound) (leaves_on sides tree)
+
+-- and is within the limits of a certificate, with so many cuts on each way down
+pub record IsLawfulPart (left : ℕ) (tree : Tree) : Type 0 where
+  pub depth : height tree ≤ left
+  pub numbers : HasLawfulNumbers tree
 
 -- the answer is the tree of a part, which used some of the cuts that were left
 abbrev pub SaysPart : ℕ → ℕ → Result Tree Ending → Result Part SplitFault → Type 0
@@ -116,3 +127,4 @@ pub record IsLowPart (d : RowsData) (bound left : ℕ) (limits : List Limits) (p
   pub found : (depth : ℕ) → left ≤ depth + 1 → searched d bound depth (left - 1) (low_side limits place) ≡ Ok part.tree
   pub count : part.left + cut_count part.tree + 1 ≡ left
   pub good : IsGoodPart d bound (sides_of (low_side limits place)) part.tree
+  pub lawful : 0 < length d.rows → IsLawfulPart (left - 1) part.tree

@@ -1,5 +1,5 @@
 -- The ranges of what is drawn.
-use Rattle.std.specs.Prelude.{◌≡◌, ℕ, suc, ◌+◌, ◌*◌, ◌^◌, ◌<◌, ◌≤◌, List, [], ◌∷◌, length}
+use Rattle.std.specs.Prelude.{◌≡◌, ℕ, ◌+◌, ◌*◌, ◌^◌, ◌<◌, ◌≤◌, List, [], ◌∷◌, length}
 use Rattle.demo_gen.specs.declared.task.DemoTask.{DemoTask}
 use Rattle.demo_gen.specs.Draws.{base, size_of}
 

@@ -3,7 +3,7 @@ use Rattle.cut_search.specs.declared.limits.Limits.{Limits}
 use Rattle.cut_search.specs.Leaves.{sides_of}
 use Rattle.cut_search.specs.Working.Limits.{IsFree}
 use Rattle.cut_search.specs.Working.Searching.{AreLimits, IsGoodPart, IsNodeRay}
-use Rattle.cut_search.proofs.Roots.{free_all, root_good, root_limits, root_ray, root_sides}
+use Rattle.cut_search.proofs.Roots.{free_all, root_good, root_lawful, root_limits, root_ray, root_sides}
 use Rattle.cut_search.proofs.finding.find_tree.Goals as goal
 
 pub search-requires-clause-limits : goal.search-requires-clause-limits
@@ -27,3 +27,6 @@ pub returns-clause-ray : goal.returns-clause-ray
 returns-clause-ray c =
     root_ray c.args.rows.now c.args.columns.now c.in-Err.fault
     (subst (λ (limits : List Limits). IsNodeRay c.args.rows.now limits c.in-Err.fault) (c.as_mut_slice.ensures.value ∙ c.in_ok-limits.ensures) c.in-Err.ensures.ray)
+
+pub returns-in-Ok-clause-lawful : goal.returns-in-Ok-clause-lawful
+returns-in-Ok-clause-lawful c = λ some. root_lawful c.args.cuts c.in-Ok.part.tree c.requires.few (c.in-Ok.ensures.lawful some)

@@ -8,7 +8,8 @@ use Rattle.cut_search.specs.declared.searching.Part.{Part}
 use Rattle.cut_search.specs.Leaves.{sides_of}
 use Rattle.cut_search.specs.Search.{high_side, limits_at, low_side, no_limits, searched}
 use Rattle.cut_search.specs.Working.Limits.{IsFirstOpen}
-use Rattle.cut_search.specs.Working.Searching.{AreLimits, IsGoodPart, IsLowPart, SaysCut, SaysNode, SaysPart}
+use Rattle.cut_search.specs.Working.Searching.{AreLimits, IsGoodPart, IsLawfulNode, IsLowPart, SaysCut, SaysNode, SaysPart}
+use Rattle.cut_search.proofs.LawfulParts.{joined_lawful, leaf_lawful}
 use Rattle.cut_search.proofs.Order.{first_open-is, high_side-sides, low_side-sides}
 use Rattle.cut_search.proofs.SearchLaws.{bounded_or, cut_says, high_fails, high_limits, joined_answer, joined_good, leaf_part, low_fails, low_limits, no_ray_of, refused_says}
 use Rattle.cut_search.proofs.searching.+search.Goals as goal
@@ -18,12 +19,18 @@ use Rattle.cut_search.proofs.searching.+search.Goals as goal
 pub search-search_cut-requires : goal.search-search_cut-requires
 search-search_cut-requires t c =
     let says = subst (λ (n : Judged). SaysNode c.args.base.now c.args.bound c.args.limits.now (Ok n)) c.in-Ok-Cut.field-0-is c.in-Ok-Cut.ensures.says in
-    (omega arith, (c.requires.sizes, (c.requires.limits, (c.requires.few, (bounded_or c.args.base.now c.args.limits.now c.requires.bounded c.in-Ok-Cut.ensures.bounded, first_open-is c.args.limits.now c.in-Ok-Cut.place says.0)))))
+    let size = subst (IsLawfulNode c.args.base.now) c.in-Ok-Cut.field-0-is c.in-Ok-Cut.ensures.lawful in
+    (omega arith, (c.requires.sizes, (c.requires.limits, (c.requires.few, (bounded_or c.args.base.now c.args.limits.now c.requires.bounded c.in-Ok-Cut.ensures.bounded, (size, first_open-is c.args.limits.now c.in-Ok-Cut.place says.0))))))
 
 pub search-returns-in-Ok-Leaf-clause-says : goal.search-returns-in-Ok-Leaf-clause-says
 search-returns-in-Ok-Leaf-clause-says t c =
     let says = subst (λ (n : Judged). SaysNode c.args.base.now c.args.bound c.args.limits.now (Ok n)) c.in-Ok-Leaf.field-0-is c.in-Ok-Leaf.ensures.says in
     λ depth h. leaf_part c.args.base.now c.args.bound c.args.cuts c.args.left c.args.limits.now c.in-Ok-Leaf.denominator c.in-Ok-Leaf.multipliers c.leaf.result says c.leaf.ensures depth
+
+pub search-returns-in-Ok-Leaf-clause-lawful : goal.search-returns-in-Ok-Leaf-clause-lawful
+search-returns-in-Ok-Leaf-clause-lawful t c =
+    let lawful = subst (IsLawfulNode c.args.base.now) c.in-Ok-Leaf.field-0-is c.in-Ok-Leaf.ensures.lawful in
+    λ some. leaf_lawful c.args.base.now c.args.left c.in-Ok-Leaf.denominator c.in-Ok-Leaf.multipliers c.leaf.result lawful c.leaf.ensures
 
 pub search-returns-in-Ok-Cut-clause-says : goal.search-returns-in-Ok-Cut-clause-says
 search-returns-in-Ok-Cut-clause-says t c =
@@ -63,6 +70,7 @@ search_cut-search_high-requires t c =
       found = λ depth h. (says depth (omega arith)).0;
       count = omega arith;
       good = subst (λ (ls : List Limits). IsGoodPart c.args.base.now c.args.bound (sides_of ls) c.in-Ok.low.tree) low c.in-Ok.ensures.good;
+      lawful = c.in-Ok.ensures.lawful;
     } in (
       omega arith,
       (
@@ -74,8 +82,11 @@ search_cut-search_high-requires t c =
             (
               c.requires.bounded,
               (
-                subst (λ (ls : List Limits). IsFirstOpen ls c.args.place) (sym back) c.requires.place,
-                subst (λ (ls : List Limits). IsLowPart c.args.base.now c.args.bound c.args.left ls c.args.place c.in-Ok.low) (sym back) part,
+                c.requires.size,
+                (
+                  subst (λ (ls : List Limits). IsFirstOpen ls c.args.place) (sym back) c.requires.place,
+                  subst (λ (ls : List Limits). IsLowPart c.args.base.now c.args.bound c.args.left ls c.args.place c.in-Ok.low) (sym back) part,
+                ),
               ),
             ),
           ),
@@ -138,6 +149,11 @@ search_high-returns-in-Ok-clause-good t c =
     let good : IsGoodPart c.args.base.now c.args.bound (sides_of (high_side c.args.limits.now c.args.place)) c.in-Ok.high.tree =
     subst (λ (ls : List Limits). IsGoodPart c.args.base.now c.args.bound (sides_of ls) c.in-Ok.high.tree) high c.in-Ok.ensures.good in
     by_joined c.joined.result c.joined.ensures.part (λ part same. joined_good c.args.base.now c.args.bound c.args.limits.now c.args.place c.args.low c.in-Ok.high part c.requires.limits c.requires.place c.requires.low.good good same)
+
+pub search_high-returns-in-Ok-clause-lawful : goal.search_high-returns-in-Ok-clause-lawful
+search_high-returns-in-Ok-clause-lawful t c =
+    λ some. by_joined c.joined.result c.joined.ensures.part
+    (λ part same. joined_lawful c.args.base.now c.args.bound c.args.left c.args.limits.now c.args.place c.args.low c.in-Ok.high part c.requires.limits c.requires.place c.requires.low c.requires.size c.in-Ok.ensures.lawful same some)
 
 pub search_high-returns-in-Ok-clause-limits : goal.search_high-returns-in-Ok-clause-limits
 search_high-returns-in-Ok-clause-limits t c =

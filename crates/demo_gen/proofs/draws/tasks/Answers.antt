@@ -1,4 +1,4 @@
-use Rattle.std.proofs.Common.{◌≡◌, ◌+◌, ◌≤◌, refl, arith}
+use Rattle.std.proofs.Common.{refl, arith}
 use Rattle.demo_gen.specs.Draws.{entry_of}
 use Rattle.demo_gen.proofs.Drawing.{drawn_more}
 use Rattle.demo_gen.proofs.draws.tasks.Goals as goal

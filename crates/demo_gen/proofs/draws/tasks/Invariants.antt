@@ -1,6 +1,3 @@
-use Rattle.std.proofs.Common.{◌≡◌, ◌+◌, ◌*◌, ◌≤◌, map}
-use Rattle.std.specs.List.{range_with_len}
-use Rattle.demo_gen.specs.Draws.{base, state_after, entry_of, task_at}
 use Rattle.demo_gen.proofs.Drawing.{HasDrawn}
 use Rattle.demo_gen.proofs.draws.tasks.Given as goal
 

@@ -1,4 +1,4 @@
-use Rattle.std.proofs.Common.{◌≡◌, ◌++◌, [], ◌∷◌, append_assoc}
+use Rattle.std.proofs.Common.{append_assoc}
 use Rattle.demo_gen.proofs.objects.put_action.Goals as goal
 
 pub returns : goal.returns

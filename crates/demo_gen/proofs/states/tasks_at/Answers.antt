@@ -1,4 +1,4 @@
-use Rattle.std.proofs.Common.{◌≡◌, sym, length, ◌<◌, get_or}
+use Rattle.std.proofs.Common.{sym}
 use Rattle.std.proofs.lemmas.List.{get_or_default}
 use Rattle.demo_gen.proofs.StateLists.{tasks_at-more}
 use Rattle.demo_gen.proofs.states.tasks_at.Goals as goal

@@ -1,8 +1,7 @@
-use Rattle.std.proofs.Common.{◌≡◌, subst, sym}
+use Rattle.std.proofs.Common.{subst}
 use Rattle.std.specs.Prelude.{IfOk}
 use Rattle.oil_grammar.specs.Grammar.{IsTextOf, IsWellFormed}
 use Rattle.oil_grammar.specs.declared.tree.Tree.{Tree}
-use Rattle.demo_gen.specs.Demo.{the_tree}
 use Rattle.demo_gen.proofs.Ranges.{all_early, all_written}
 use Rattle.demo_gen.proofs.TreeText.{well_formed}
 use Rattle.demo_gen.proofs.writing.oil_text.Goals as goal

@@ -1,4 +1,4 @@
-use Rattle.std.proofs.Common.{Some, sym, subst}
+use Rattle.std.proofs.Common.{Some, refl, sym, subst}
 use Rattle.command_steps.specs.Steps.{IsCall}
 use Rattle.syswcet.specs.declared.words.Command.{Command}
 use Rattle.syswcet.specs.Commands.{StepsOf}
@@ -33,3 +33,33 @@ pub returns-in-Replay : goal.returns-in-Replay
 returns-in-Replay g c =
     let P : Command → Type 0 = λ k. StepsOf (IsCall g.F.Files.outside g.F.Files.reads) (Some k) c.args.files.now c.replayed.result c.replayed.new.files in
     subst P (sym c.in-Replay.is) c.replayed.ensures
+
+pub returns-in-TraceRecord : goal.returns-in-TraceRecord
+returns-in-TraceRecord g c =
+    let P : Command → Type 0 = λ k. StepsOf (IsCall g.F.Files.outside g.F.Files.reads) (Some k) c.args.files.now c.trace_recorded.result c.trace_recorded.new.files in
+    subst P (sym c.in-TraceRecord.is) c.trace_recorded.ensures
+
+pub returns-in-TraceJudge : goal.returns-in-TraceJudge
+returns-in-TraceJudge g c =
+    let P : Command → Type 0 = λ k. StepsOf (IsCall g.F.Files.outside g.F.Files.reads) (Some k) c.args.files.now c.trace_judged.result c.trace_judged.new.files in
+    subst P (sym c.in-TraceJudge.is) c.trace_judged.ensures
+
+pub returns-in-Loops : goal.returns-in-Loops
+returns-in-Loops g c =
+    let P : Command → Type 0 = λ k. StepsOf (IsCall g.F.Files.outside g.F.Files.reads) (Some k) c.args.files.now c.loop_bounds.result c.loop_bounds.new.files in
+    subst P (sym c.in-Loops.is) c.loop_bounds.ensures
+
+pub returns-in-SplitFind : goal.returns-in-SplitFind
+returns-in-SplitFind g c =
+    let P : Command → Type 0 = λ k. StepsOf (IsCall g.F.Files.outside g.F.Files.reads) (Some k) c.args.files.now c.no_command.result c.args.files.now in
+    subst P (sym c.in-SplitFind.is) (refl, c.no_command.ensures)
+
+pub returns-in-SplitCheck : goal.returns-in-SplitCheck
+returns-in-SplitCheck g c =
+    let P : Command → Type 0 = λ k. StepsOf (IsCall g.F.Files.outside g.F.Files.reads) (Some k) c.args.files.now c.split_checked.result c.split_checked.new.files in
+    subst P (sym c.in-SplitCheck.is) c.split_checked.ensures
+
+pub returns-in-Demo : goal.returns-in-Demo
+returns-in-Demo g c =
+    let P : Command → Type 0 = λ k. StepsOf (IsCall g.F.Files.outside g.F.Files.reads) (Some k) c.args.files.now c.no_command-in-Demo.result c.args.files.now in
+    subst P (sym c.in-Demo.is) (refl, c.no_command-in-Demo.ensures)

@@ -1,4 +1,4 @@
-use Rattle.std.proofs.Common.{◌≡◌, ◌-◌, ap, ◌∙◌}
+use Rattle.std.proofs.Common.{◌-◌, ap, ◌∙◌}
 use Rattle.trace_check.proofs.Arriving.{near_least, near_none}
 use Rattle.trace_check.proofs.arrivals.has_nearer.Goals as goal
 

@@ -1,4 +1,4 @@
-use Rattle.std.proofs.Common.{◌≡◌, ◌∙◌}
+use Rattle.std.proofs.Common.{◌∙◌}
 use Rattle.trace_check.proofs.Forms.{three_members, four_members}
 use Rattle.trace_check.proofs.form.parts_of.Goals as goal
 

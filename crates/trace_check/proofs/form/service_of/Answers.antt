@@ -1,4 +1,4 @@
-use Rattle.std.proofs.Common.{◌≡◌, ◌∙◌}
+use Rattle.std.proofs.Common.{◌∙◌}
 use Rattle.trace_check.proofs.Forms.{six_members}
 use Rattle.trace_check.proofs.form.service_of.Goals as goal
 

@@ -1,8 +1,8 @@
-use Rattle.std.proofs.Common.{◌≡◌, ◌<◌, List, Option, length, sym, subst}
+use Rattle.std.proofs.Common.{◌<◌, List, Option, length, sym, subst}
 use Rattle.std.specs.Prelude.{IfSome}
 use Rattle.abstract_sched.specs.declared.states.AbsState.{AbsState}
 use Rattle.trace_check.specs.declared.tables.Step.{Step}
-use Rattle.trace_check.specs.Working.Tables.{AreTables, AreSteps}
+use Rattle.trace_check.specs.Working.Tables.{AreTables}
 use Rattle.trace_check.proofs.Following.{service_step, service_listed}
 use Rattle.trace_check.proofs.judging.serve.Goals as goal
 

@@ -1,9 +1,9 @@
-use Rattle.std.proofs.Common.{◌≡◌, ◌<◌, List, Option, length, sym, subst}
+use Rattle.std.proofs.Common.{◌<◌, List, Option, length, sym, subst}
 use Rattle.std.specs.Prelude.{IfSome}
 use Rattle.abstract_sched.specs.declared.states.AbsState.{AbsState}
 use Rattle.row_build.specs.Columns.{takes_source}
 use Rattle.trace_check.specs.declared.tables.Step.{Step}
-use Rattle.trace_check.specs.Working.Tables.{AreTables, AreSteps}
+use Rattle.trace_check.specs.Working.Tables.{AreTables}
 use Rattle.trace_check.proofs.Tabling.{step_with, found_listed}
 use Rattle.trace_check.proofs.judging.take.Goals as goal
 

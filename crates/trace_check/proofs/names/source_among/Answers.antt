@@ -1,4 +1,4 @@
-use Rattle.std.proofs.Common.{◌≡◌, ◌∙◌}
+use Rattle.std.proofs.Common.{◌∙◌}
 use Rattle.std.specs.Prelude.{bytes_eq}
 use Rattle.trace_check.proofs.Naming.{in_first, in_second}
 use Rattle.trace_check.proofs.names.source_among.Goals as goal

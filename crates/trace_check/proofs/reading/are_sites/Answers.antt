@@ -1,4 +1,4 @@
-use Rattle.std.proofs.Common.{◌≡◌, ◌∙◌}
+use Rattle.std.proofs.Common.{◌∙◌}
 use Rattle.trace_check.specs.Text.{is_address}
 use Rattle.trace_check.proofs.Laws.{counted_view}
 use Rattle.trace_check.proofs.reading.are_sites.Goals as goal

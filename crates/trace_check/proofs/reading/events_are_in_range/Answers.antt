@@ -1,4 +1,4 @@
-use Rattle.std.proofs.Common.{◌≡◌, ◌∙◌}
+use Rattle.std.proofs.Common.{◌∙◌}
 use Rattle.trace_check.specs.Text.{is_in_range}
 use Rattle.trace_check.proofs.Laws.{counted_view}
 use Rattle.trace_check.proofs.reading.events_are_in_range.Goals as goal

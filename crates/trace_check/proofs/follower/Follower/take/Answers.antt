@@ -1,4 +1,4 @@
-use Rattle.std.proofs.Common.{◌≡◌, sym, ap, ◌∙◌, refl, false}
+use Rattle.std.proofs.Common.{sym, ◌∙◌, refl, false}
 use Rattle.std.specs.Prelude.{slice_set}
 use Rattle.trace_check.proofs.Following.{clears, take_goes}
 use Rattle.trace_check.proofs.follower.Follower.take.Goals as goal

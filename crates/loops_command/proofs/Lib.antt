@@ -1,0 +1,4 @@
+pub mod LoopLines
+pub mod Answering
+pub mod Honest
+pub mod Headline

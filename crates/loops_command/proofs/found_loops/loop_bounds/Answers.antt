@@ -1,0 +1,18 @@
+-- The files were read and judged, or that ended the command.
+use Rattle.std.proofs.Common.{ℕ, List, inl, inr, subst}
+use Rattle.command_steps.specs.Steps.{IsCall}
+use Rattle.inputs.proofs.Halts.{err_is}
+use Rattle.loops_command.specs.Loops.{LoopsOn}
+use Rattle.loops_command.proofs.found_loops.loop_bounds.Goals as goal
+
+pub returns-in_err-analysed : goal.returns-in_err-analysed
+returns-in_err-analysed g c = let halt = c.in_err-analysed.field-0.0 in
+    inr (halt, c.in_err-analysed.ensures, err_is c.from_residual.result halt c.from_residual.ensures.0 c.from_residual.ensures.1)
+
+pub returns : goal.returns
+returns g c =
+    let calls = IsCall g.F.Files.outside g.F.Files.reads in
+    let analysed = c.in_ok-analysed.analysed in
+    let next = subst (λ (name : List ℕ). LoopsOn calls c.args.states.now name analysed c.read_task.new.files c.loops_on.result c.loops_on.new.files)
+    c.as_str.ensures.same c.loops_on.ensures in
+    inl (analysed, c.read_task.new.files, c.in_ok-analysed.ensures, next)
