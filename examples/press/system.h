@@ -1,3 +1,3 @@
 /* The places of tasks and resources in press.oil. */
 enum { Guard, Stroke, Feed, Oil, Clean };
-enum { Belt, Valves };
+enum { Belt };

@@ -69,17 +69,13 @@ TASK(Feed)
 
 TASK(Oil)
 {
-    GetResource(Valves);
     for (int i = 0; i < NOZZLES; i++)
         VALVE = 1u << i;
-    ReleaseResource(Valves);
     TerminateTask();
 }
 
 TASK(Clean)
 {
-    GetResource(Valves);
     VALVE = 0xff;
-    ReleaseResource(Valves);
     TerminateTask();
 }
