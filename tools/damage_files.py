@@ -148,10 +148,10 @@ def hostile():
         "image": b"\x63\x02\x00\x00" * ((4 << 20) - 3) + read("lone", "image")[4:], "k": read("lone", "states.json")}
 
     loops = b",".join(b'{"from":"0x%x","to":"0x%x","bound":4}' % (4 * i, 4 * i + 4) for i in range(22000))
-    times = demo["s.json"].rstrip().rstrip(b"}")
+    times = demo["s.json"].rstrip()[:-1]
     yield "a timing of 22,000 loops", *with_file("s.json", times + b',"loops":[' + loops + b"]}", code)
     yield "a timing of 1 MiB of open brackets", *with_file("s.json", b"[" * mib, code)
-    yield "a timing with a number of 1 MiB", *with_file("s.json", times[:-1] + b"1" * (mib - 200) + b"}", code)
+    yield "a timing with a number of 1 MiB", *with_file("s.json", times.replace(b'"alarm":30', b'"alarm":' + b"1" * (mib - 200)) + b"}", code)
     yield "a timing of 1 MiB of one key", *with_file("s.json", b'{"a":1' + b',"a":1' * (mib // 6 - 10) + b"}", code)
     ticks = b",".join(b'"C%d":1' % i for i in range(80000))
     yield "a timing of 80,000 ticks", *with_file("s.json", re.sub(rb'"ticks":\{', b'"ticks":{' + ticks + b",", demo["s.json"]), code)
@@ -170,11 +170,30 @@ def hostile():
     numbers = b",".join([b'"0"'] * 10000000)
     yield "a certificate of 10,000,000 multipliers", *with_file("c", demo["c"][:start] + numbers + b"," + demo["c"][start:], check)
     yield "a certificate with a multiplier of 60 MB", *with_file("c", demo["c"][:start] + b'"' + b"7" * 60000000 + b'",' + demo["c"][start:], check)
+    split = ["split", "check", *system, "T", "c"]
+    for depth in (100, 101, 120, 5000):
+        leaf = b'["leaf","1",[]]'
+        tree = b'["cut",0,0,' * depth + leaf + (b"," + leaf + b"]") * depth
+        cuts = b'{"bound":"1","states":' + demo["k"].strip() + b',"task":"T","tree":' + tree + b"}"
+        yield f"a split certificate whose cuts nest {depth} deep", *with_file("c", cuts, split)
+    judge = ["trace", "judge", *system, "T", "c", "r"]
+
+    def with_trace(data):
+        return judge, {**demo, "r": data}
+
+    arrivals = b",".join(b'["arrive",%d,"Tick"]' % (1000 * i) for i in range(65536))
+    yield "a trace of 65,536 arrivals", *with_trace(b'{"end":70000000,"events":[' + arrivals + b'],"mode":"Main"}')
+    falling = b",".join(b'["arrive",%d,"Tick"]' % (1000 * (65536 - i)) for i in range(65536))
+    yield "a trace of 65,536 arrivals, the last one first", *with_trace(b'{"end":70000000,"events":[' + falling + b'],"mode":"Main"}')
+    yield "a trace of 16 MiB of open brackets", *with_trace(b"[" * (16 << 20))
+    yield "a trace of 2,000,000 events", *with_trace(b'{"end":1,"events":[' + b",".join([b"[]"] * 2000000) + b'],"mode":"Main"}')
     replay = ["replay", *system, "p"]
     arrivals = b",".join(b'{"at":%d,"source":"Tick"}' % (1000 * i) for i in range(400000))
     yield "a schedule of 400,000 arrivals", *with_file("p", b'{"mode":"Main","end":16777216,"arrivals":[' + arrivals + b"]}", replay)
-    few = b",".join(b'{"at":%d,"source":"Tick"}' % (1000 * i) for i in range(4000))
-    yield "a schedule of 4,000 arrivals", *with_file("p", b'{"mode":"Main","end":16777216,"arrivals":[' + few + b"]}", replay)
+    many = b",".join(b'{"at":%d,"source":"Tick"}' % (1000 * i) for i in range(16777))
+    many = b'{"mode":"Main","end":16777216,"arrivals":[' + many + b"]}"
+    yield "a schedule of 16,777 arrivals", *with_file("p", many, replay)
+    yield "the recording of its run", *with_file("p", many, ["trace", "record", *system, "p"])
 
 
 def large_code(words, symbols=2):
@@ -182,9 +201,10 @@ def large_code(words, symbols=2):
     text = read("demo", "s.elf")[84:112]
     code = b"\x93\x02\x12\x00" * (words - 7) + text
     end = 0x100 + 4 * (words - 7)
-    names, table = b"\0Task_T\0Task_H\0", bytes(16)
-    for i in range(symbols):
-        table += struct.pack("<IIIBBH", 1 if i == 0 else 8, end if i == 0 else end + 16, 0, 0x12, 0, 1) if i < 2 else struct.pack("<IIIBBH", 1, 0, 0, 0, 0, 0)
+    names, table = b"\0Task_T\0Task_H\0", bytearray(16)
+    for name, address in ((1, end), (8, end + 16)):
+        table += struct.pack("<IIIBBH", name, address, 0, 0x12, 0, 1)
+    table += struct.pack("<IIIBBH", 1, 0, 0, 0, 0, 0) * (symbols - 2)
     sections_names = b"\0.text\0.symtab\0.strtab\0"
     at_code, at_table = 84, 84 + len(code)
     at_names = at_table + len(table)
@@ -261,7 +281,7 @@ def main():
     for name, words, files in hostile():
         why, took, answer = broken(words, files)
         wrong += bool(why)
-        print(f"damage_files: {name}: {took:.2f} s, {why or answer}")
+        print(f"damage_files: {name}: {took:.2f} s, {why or answer.splitlines()[0]}")
         slow.append((took, name, answer))
     slow.sort(reverse=True)
     print("damage_files: slowest:", "; ".join(f"{took:.2f} s {name}" for took, name, _ in slow[:5]))
