@@ -1,8 +1,8 @@
 """Bounds a task by an outside solver, for systems that are larger than the tables of `bound`.
 
-    tools/outside_bound OIL ELF TIMING TASK STATES CERT
+    tools/outside_bound OIL ELF TIMING TASK [STATES] CERT
 
-writes the certificate CERT, and ends with what `./syswcet check` says of it: nothing of this script, nor of the solver, has to
+writes the certificate CERT, over the listed states or else over those that `tools/list_states` lists, and ends with what `./syswcet check` says of it: nothing of this script, nor of the solver, has to
 be trusted. `list_rows` gives the rows of the task with their links; chains of columns are made one; `esolver` (Debian's
 qsopt-ex) or else `glpsol` (glpk-utils) solves them; the multipliers of the chains' rows follow from the others. Exact multipliers
 are brought to one denominator. Where that, or a multiplier, reaches 2^80, and for a solver with floating point, the rows are
@@ -179,9 +179,24 @@ def rounded(full, kept, multipliers):
 
 
 def main():
-    if len(sys.argv) != 7:
+    if len(sys.argv) not in (6, 7):
         sys.exit(__doc__)
-    files, cert_path = sys.argv[1:6], sys.argv[6]
+    with tempfile.TemporaryDirectory() as folder:
+        states = sys.argv[5] if len(sys.argv) == 7 else listed_states(sys.argv[1:4], os.path.join(folder, "states"))
+        return certified([*sys.argv[1:5], states], sys.argv[-1])
+
+
+def listed_states(files, path):
+    """The path, to which the least closed list of states is written."""
+    with open(path, "wb") as out:
+        done = subprocess.run([os.path.join(ROOT, "tools", "list_states"), *files], stdout=out, check=False)
+    if done.returncode:
+        sys.exit("outside_bound: list_states gives no list")
+    return path
+
+
+def certified(files, cert_path):
+    """Writes the certificate, and gives the status of its check."""
     if not os.path.exists(LIST_ROWS):
         sys.exit("outside_bound: build list_rows first: `rt run` in crates/list_rows")
     start = time.monotonic()
