@@ -8,6 +8,7 @@ lists up to the limit of its file. A run may take ten seconds and 4 GiB at most,
 also with 7 and 11), writes something, and writes nothing to standard error. What breaks this is told and kept in
 damage_found/; the slowest runs are told at the end. The status is 1 where something broke.
 """
+import json
 import os
 import random
 import re
@@ -45,6 +46,11 @@ def samples():
             found.append((["replay", *system, "p"], files))
     for name in sorted(os.listdir(os.path.join(EXAMPLES, "oil"))):
         found.append((["show", "oil", name], {name: read("oil", name)}))
+    with open(os.path.join(ROOT, "tools", "cases.jsonl")) as lines:
+        for line in lines:
+            case = json.loads(line)
+            if case["status"] == 0 and case["words"][0] in ("loops", "split", "trace"):
+                found.append((case["words"], {name: text.encode("latin-1") for name, text in case["files"].items()}))
     lone = {name: read("lone", name) for name in ("image", "cert.json", "states.json")}
     found.append((["check", "lone", "image", "cert.json"], lone))
     found.append((["bound", "lone", "image", "states.json"], lone))
@@ -240,7 +246,7 @@ def broken(words, files):
             return "more than ten seconds", MOST_SECONDS, ""
         seconds = time.monotonic() - start
     answer = done.stdout[:60].decode("latin-1").strip()
-    allowed = {0, 1, 2, 3, 4, 5, 6} | ({7, 11} if words[0] == "replay" else set())
+    allowed = {0, 1, 2, 3, 4, 5, 6} | ({7, 11} if words[0] == "replay" or words[1] == "record" else set())
     if done.returncode not in allowed:
         return f"status {done.returncode}", seconds, answer
     if not done.stdout and not (words[0] == "replay" and done.returncode == 0):
