@@ -1,3 +1,4 @@
 pub mod Texts
 pub mod SplitFiles
 pub mod Check
+pub mod Find

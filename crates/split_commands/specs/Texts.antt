@@ -4,7 +4,7 @@ use Rattle.std.specs.Fmt.{decimal}
 use Rattle.wcet_atomic_blocks.specs.Plants.{PlantData}
 use Rattle.certificate.specs.declared.verdict.Why.{Why}
 use Rattle.certificate.specs.declared.verdict.Why.TheVariants.{MissingInitial, Missing, Misuse, Count, Column, Bound}
-use Rattle.command_steps.specs.declared.status.Reason.TheVariants.{No}
+use Rattle.command_steps.specs.declared.status.Reason.TheVariants.{No, Budget}
 use Rattle.command_steps.specs.declared.halt.Refusal.{Refusal}
 use Rattle.command_steps.specs.Refusals.{refusal, newline}
 use Rattle.inputs.specs.States.{why_refusal}
@@ -32,3 +32,12 @@ abbrev pub split_refusal : PlantData → SplitWhy → Refusal
 split_refusal plant (whys.States why) = why_refusal plant why
 split_refusal plant (whys.Cut column) = cut_refusal column
 split_refusal plant (whys.Leaf leaf why) = leaf_refusal leaf why
+
+-- ---- where no tree of cuts is found
+
+abbrev pub no_tree_refusal : Refusal
+no_tree_refusal = refusal No (codes "no tree\n")
+
+-- so many cuts are too few
+abbrev pub cuts_refusal : ℕ → Refusal
+cuts_refusal cuts = refusal Budget (codes "budget cuts " ++ (decimal cuts ++ newline))

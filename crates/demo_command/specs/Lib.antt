@@ -1,0 +1,5 @@
+pub mod Seen
+pub mod Texts
+pub mod Demo
+pub mod Meaning
+pub mod Lines
