@@ -7,7 +7,8 @@ use Rattle.reports.specs.Refusals.{words_refusal}
 use Rattle.bound_commands.proofs.Honest.{check_honest, bound_honest, certify_honest, all_honest}
 use Rattle.show_commands.proofs.Honest.{show_oil_honest, show_code_honest, replay_honest}
 use Rattle.loops_command.proofs.Honest.{loops_honest}
-use Rattle.split_commands.proofs.Honest.{split_check_honest}
+use Rattle.split_commands.proofs.Honest.{split_check_honest, split_find_honest}
+use Rattle.demo_command.proofs.Honest.{demo_honest}
 use Rattle.trace_commands.proofs.Honest.{trace_record_honest, trace_judge_honest}
 use Rattle.syswcet.specs.declared.words.Command.{Command}
 use Rattle.syswcet.specs.declared.words.Command.TheVariants as command
@@ -27,6 +28,9 @@ honest outside reads (Some (command.Replay oil elf timing schedule)) = replay_ho
 honest outside reads (Some (command.Loops oil elf timing task states)) = loops_honest outside reads oil elf timing task states
 honest outside reads (Some (command.SplitCheck oil elf timing task certificate)) =
     split_check_honest outside reads oil elf timing task certificate
+honest outside reads (Some (command.SplitFind oil elf timing task states bound cuts)) =
+    split_find_honest outside reads oil elf timing task states bound cuts
 honest outside reads (Some (command.TraceRecord oil elf timing schedule)) = trace_record_honest outside reads oil elf timing schedule
 honest outside reads (Some (command.TraceJudge oil elf timing task certificate trace)) =
     trace_judge_honest outside reads oil elf timing task certificate trace
+honest outside reads (Some (command.Demo seed count)) = demo_honest outside reads seed count

@@ -23,7 +23,8 @@ use Rattle.show_commands.specs.ShowOil.{ShowOil}
 use Rattle.bound_commands.specs.Solving.{Bound, Certify}
 use Rattle.bound_commands.proofs.Headline.{check_says, bound_says, certify_says, all_says}
 use Rattle.loops_command.proofs.Headline.{loops_says}
-use Rattle.split_commands.proofs.Headline.{split_check_says}
+use Rattle.split_commands.proofs.Headline.{split_check_says, split_find_says}
+use Rattle.demo_command.proofs.Headline.{demo_says}
 use Rattle.trace_commands.proofs.Headline.{trace_record_says, trace_judge_says}
 use Rattle.show_commands.proofs.Headline.{show_oil_says, show_code_says, replay_says}
 
@@ -48,10 +49,13 @@ truly outside reads start (Some (command.Loops oil elf timing task states)) text
     loops_says outside reads start oil elf timing task states text after steps
 truly outside reads start (Some (command.SplitCheck oil elf timing task certificate)) text after steps =
     split_check_says outside reads start oil elf timing task certificate text after steps
+truly outside reads start (Some (command.SplitFind oil elf timing task states bound cuts)) text after steps =
+    split_find_says outside reads start oil elf timing task states bound cuts text after steps
 truly outside reads start (Some (command.TraceRecord oil elf timing schedule)) text after steps =
     trace_record_says outside reads start oil elf timing schedule text after steps
 truly outside reads start (Some (command.TraceJudge oil elf timing task certificate trace)) text after steps =
     trace_judge_says outside reads start oil elf timing task certificate trace text after steps
+truly outside reads start (Some (command.Demo seed count)) text after steps = demo_says outside reads start seed count text after steps
 
 stepped : {F : Type 0} (calls : Calls F) (command : Option Command) (start : F) (answered : Result (List ℕ) Halt) (text : List ℕ) (after : F)
     → answered ≡ Ok text

@@ -1,3 +1,4 @@
+pub mod Ranges
 pub mod Numbers
 pub mod Commands
 pub mod Headline

@@ -15,6 +15,7 @@ use Rattle.bound_commands.specs.Bounded.{BoundsAll, HasBound}
 use Rattle.show_commands.specs.Shown.{ShowsLayout, ShowsCode, ReplaysSchedule}
 use Rattle.loops_command.specs.Meaning.{BoundsByCode}
 use Rattle.trace_commands.specs.Meaning.{RecordsRun, JudgesFit}
+use Rattle.demo_command.specs.Meaning.{BoundsDemo}
 use Rattle.syswcet.specs.declared.words.Command.{Command}
 use Rattle.syswcet.specs.declared.words.Command.TheVariants as command
 
@@ -36,10 +37,13 @@ SaysTruly Bytes (Some (command.Replay oil elf timing schedule)) text =
 SaysTruly Bytes (Some (command.Loops oil elf timing task states)) text = OfSystem Bytes oil elf timing (BoundsByCode task text)
 SaysTruly Bytes (Some (command.SplitCheck oil elf timing task certificate)) text =
     (bound : ℕ) × (text ≡ yes_text task bound) × BoundsSubject Bytes (Named oil elf timing task) bound
+SaysTruly Bytes (Some (command.SplitFind oil elf timing task states bound cuts)) text =
+    HasBound text bound × BoundsSubject Bytes (Named oil elf timing task) bound
 SaysTruly Bytes (Some (command.TraceRecord oil elf timing schedule)) text =
     (s : List ℕ) × Bytes schedule s × OfSystem Bytes oil elf timing (RecordsRun s text)
 SaysTruly Bytes (Some (command.TraceJudge oil elf timing task certificate trace)) text =
     (b : List ℕ) × Bytes trace b × OfSystem Bytes oil elf timing (JudgesFit task b text)
+SaysTruly Bytes (Some (command.Demo seed count)) text = BoundsDemo seed count text
 
 -- A text was written whole, and it says what the command is for.
 abbrev pub Means : {F : Type 0} → (F → FilesOutside) → Calls F → F → Option Command → SinkOutside → SinkOutside → Type 0

@@ -1,12 +1,13 @@
 -- The shapes of the command words.
-use Rattle.std.specs.Prelude.{◌≡◌, ℕ, ◌+◌, Bool, ◌&&◌, ◌==◌, List, [], ◌∷◌, length, get_or, codes, bytes_eq, Option, Some, None, if◌then◌else◌, nat_lt, nat_le, option_and_then, refl}
+use Rattle.std.specs.Prelude.{◌≡◌, ℕ, ◌+◌, ◌≤◌, Bool, ◌&&◌, ◌==◌, List, [], ◌∷◌, length, get_or, codes, bytes_eq, Option, Some, None, if◌then◌else◌, nat_lt, nat_le, option_and_then, refl}
 use Rattle.std.specs.Char.{is_ascii_digit}
 use Rattle.std.specs.List.{list_all}
 use Rattle.std.specs.Option.{option_map}
 use Rattle.std.specs.Str.Parse.{digits_value}
 use Rattle.bound_commands.specs.Solving.{usual_pivots}
+use Rattle.split_commands.specs.Find.{usual_cuts}
 use Rattle.syswcet.specs.declared.words.Command.{Command}
-use Rattle.syswcet.specs.declared.words.Command.TheVariants.{Check, Bound, Certify, All, ShowOil, ShowCode, Replay, Loops, SplitCheck, TraceRecord, TraceJudge}
+use Rattle.syswcet.specs.declared.words.Command.TheVariants.{Check, Bound, Certify, All, ShowOil, ShowCode, Replay, Loops, SplitCheck, SplitFind, TraceRecord, TraceJudge, Demo}
 use Rattle.inputs.specs.declared.subjects.Subject.{Subject}
 use Rattle.inputs.specs.declared.subjects.Subject.TheVariants.{Lone, Named}
 
@@ -21,6 +22,10 @@ has_word words i text = nat_lt i (length words) && bytes_eq (word words i) text
 -- so many words, the first of which is this
 abbrev pub is_single : List (List ℕ) → List ℕ → ℕ → Bool
 is_single words first count = (length words == count) && has_word words 0 first
+
+-- the first two words are these
+abbrev pub begins : List (List ℕ) → List ℕ → List ℕ → Bool
+begins words first second = has_word words 0 first && has_word words 1 second
 
 -- so many words, the first two of which are these
 abbrev pub is_shape : List (List ℕ) → List ℕ → List ℕ → ℕ → Bool
@@ -73,6 +78,16 @@ limit_of words =
     if is_last words then Some usual_pivots
     else (if has_option words then pivots_of (word words (place_behind words + 2)) else None)
 
+-- ---- the limit on cuts of a search: behind its bound stands `--cuts C`, or nothing
+
+abbrev pub cuts_of : List ℕ → Option ℕ
+cuts_of text = number_within 1 100 text
+
+abbrev pub cuts_limit : List (List ℕ) → Option ℕ
+cuts_limit words =
+    if length words == 8 then Some usual_cuts
+    else (if (length words == 10) && has_word words 8 (codes "--cuts") then cuts_of (word words 9) else None)
+
 -- ---- the commands, with the words that name their files
 
 abbrev pub check : List (List ℕ) → Command
@@ -102,11 +117,22 @@ loops words = Loops (word words 1) (word words 2) (word words 3) (word words 4) 
 abbrev pub split_check : List (List ℕ) → Command
 split_check words = SplitCheck (word words 2) (word words 3) (word words 4) (word words 5) (word words 6)
 
+abbrev pub split_find : List (List ℕ) → ℕ → ℕ → Command
+split_find words cuts bound = SplitFind (word words 2) (word words 3) (word words 4) (word words 5) (word words 6) bound cuts
+
+-- the search, where its bound is a number and its limit on cuts is one
+abbrev pub split_find_of : List (List ℕ) → Option Command
+split_find_of words = option_and_then (λ cuts. option_map (split_find words cuts) (number_of (word words 7))) (cuts_limit words)
+
 abbrev pub trace_record : List (List ℕ) → Command
 trace_record words = TraceRecord (word words 2) (word words 3) (word words 4) (word words 5)
 
 abbrev pub trace_judge : List (List ℕ) → Command
 trace_judge words = TraceJudge (word words 2) (word words 3) (word words 4) (word words 5) (word words 6) (word words 7)
+
+-- a seed and how many tasks
+abbrev pub demo_of : List (List ℕ) → Option Command
+demo_of words = option_and_then (λ seed. option_map (Demo seed) (number_within 1 8 (word words 2))) (number_within 0 4294967295 (word words 1))
 
 -- ---- all of them
 
@@ -120,8 +146,9 @@ trace_judge words = TraceJudge (word words 2) (word words 3) (word words 4) (wor
 --   show code OIL ELF TIMING
 --   replay OIL ELF TIMING SCHEDULE
 --   loops OIL ELF TIMING TASK STATES
---   split check OIL ELF TIMING TASK CERT
+--   split check OIL ELF TIMING TASK CERT                 split find OIL ELF TIMING TASK STATES N [--cuts C]
 --   trace record OIL ELF TIMING SCHEDULE                 trace judge OIL ELF TIMING TASK CERT TRACE
+--   demo SEED TASKS
 abbrev pub command_of : List (List ℕ) → Option Command
 command_of words =
     if has_word words 0 (codes "check") then (if is_last words then Some (check words) else None)
@@ -133,9 +160,17 @@ command_of words =
     else (if is_single words (codes "replay") 5 then Some (replay words)
     else (if is_single words (codes "loops") 6 then Some (loops words)
     else (if is_shape words (codes "split") (codes "check") 7 then Some (split_check words)
+    else (if begins words (codes "split") (codes "find") then split_find_of words
     else (if is_shape words (codes "trace") (codes "record") 6 then Some (trace_record words)
     else (if is_shape words (codes "trace") (codes "judge") 8 then Some (trace_judge words)
-    else None))))))))))
+    else (if is_single words (codes "demo") 3 then demo_of words
+    else None))))))))))))
+
+-- numbers that a command asks to be in a range
+abbrev pub IsInRange : Command → Type 0
+IsInRange (SplitFind oil elf timing task states bound cuts) = cuts ≤ 100
+IsInRange (Demo seed count) = (1 ≤ count) × (count ≤ 8)
+IsInRange command = Unit {0}
 
 -- ---- worked cases
 
@@ -179,3 +214,19 @@ trace_judge_case : command_of
     (codes "trace" ∷ codes "judge" ∷ codes "o" ∷ codes "e" ∷ codes "t" ∷ codes "T" ∷ codes "c" ∷ codes "r" ∷ []) ≡ Some
     (TraceJudge (codes "o") (codes "e") (codes "t") (codes "T") (codes "c") (codes "r"))
 trace_judge_case = refl
+
+split_find_case : command_of
+    (codes "split" ∷ codes "find" ∷ codes "o" ∷ codes "e" ∷ codes "t" ∷ codes "T" ∷ codes "k" ∷ codes "127" ∷ []) ≡ Some
+    (SplitFind (codes "o") (codes "e") (codes "t") (codes "T") (codes "k") 127 64)
+split_find_case = refl
+
+cuts_case : command_of
+    (codes "split" ∷ codes "find" ∷ codes "o" ∷ codes "e" ∷ codes "t" ∷ codes "T" ∷ codes "k" ∷ codes "127" ∷ codes "--cuts" ∷ codes "3" ∷ []) ≡ Some
+    (SplitFind (codes "o") (codes "e") (codes "t") (codes "T") (codes "k") 127 3)
+cuts_case = refl
+
+demo_case : command_of (codes "demo" ∷ codes "1" ∷ codes "3" ∷ []) ≡ Some (Demo 1 3)
+demo_case = refl
+
+many_tasks_case : command_of (codes "demo" ∷ codes "1" ∷ codes "9" ∷ []) ≡ None
+many_tasks_case = refl

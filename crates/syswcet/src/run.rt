@@ -3,18 +3,19 @@ ghost use Rattle.std.specs.Prelude.{◌≡◌, ◌⊎◌, Some, Err};
 ghost use Rattle.command_steps.specs.Running.{Ran, EndsSurely};
 ghost use Rattle.command_steps.specs.Steps.{IsCall, Says};
 ghost use Rattle.reports.specs.Refusals.{words_refusal};
-ghost use Rattle.syswcet.specs.Words.{command_of};
+ghost use Rattle.syswcet.specs.Words.{command_of, IsInRange};
 ghost use Rattle.syswcet.specs.Commands.{StepsOf, files_of};
 ghost use Rattle.syswcet.specs.Headline.{Means};
 
 use crate::words::{Command, command_of};
 use bound_commands::{all_bounds, bounded, certified, checked};
 use command_steps::{Halt, Status, report};
+use demo_command::demonstrated;
 use listed::Memory;
 use loops_command::loop_bounds;
 use reports::words_refusal;
 use show_commands::{replayed, show_code, show_oil};
-use split_commands::split_checked;
+use split_commands::{split_checked, split_found};
 use std::alloc::Global;
 use trace_commands::{trace_judged, trace_recorded};
 use wcet_io::{Bytes, Files, Sink, SureFiles, SureSink, Words};
@@ -67,6 +68,7 @@ fn no_command(alloc: Global) -> Result<Bytes, Halt>
 
 /// What the command's steps give.
 fn answer_command<F: Files>(alloc: Global, command: &Command, files: &mut F) -> Result<Bytes, Halt>
+    requires { IsInRange command.now }
     ensures { StepsOf (IsCall F.outside F.reads) (Some command.now) files.old result files.new }
 {
     match command {
@@ -112,6 +114,15 @@ fn answer_command<F: Files>(alloc: Global, command: &Command, files: &mut F) -> 
             task,
             certificate,
         } => split_checked(alloc, oil, elf, timing, task, certificate, files),
+        Command::SplitFind {
+            oil,
+            elf,
+            timing,
+            task,
+            states,
+            bound,
+            cuts,
+        } => split_found(alloc, oil, elf, timing, task, states, *bound, *cuts, files),
         Command::TraceRecord {
             oil,
             elf,
@@ -126,5 +137,6 @@ fn answer_command<F: Files>(alloc: Global, command: &Command, files: &mut F) -> 
             certificate,
             trace,
         } => trace_judged(alloc, oil, elf, timing, task, certificate, trace, files),
+        Command::Demo { seed, count } => demonstrated(alloc, *seed, *count),
     }
 }

@@ -1,20 +1,30 @@
 //! What the command words ask for.
-ghost use Rattle.std.specs.Prelude.{◌≡◌, ◌<◌, ◌≤◌, ◌&&◌, if◌then◌else◌, nat_lt, nat_le, length, bytes_eq, Some, None, IfOk, IfSome};
+ghost use Rattle.std.specs.Prelude.{◌≡◌, ℕ, List, ◌<◌, ◌≤◌, ◌&&◌, if◌then◌else◌, nat_lt, nat_le, length, bytes_eq, Some, None, IfOk, IfSome};
 ghost use Rattle.std.specs.Char.{is_ascii_digit};
 ghost use Rattle.std.specs.List.{list_all};
 ghost use Rattle.std.specs.Option.{option_map};
 ghost use Rattle.inputs.specs.declared.subjects.Subject.TheVariants.{Lone, Named};
 ghost use Rattle.syswcet.specs.Words as shapes;
-ghost use Rattle.syswcet.specs.Words.{word, place_behind};
+ghost use Rattle.syswcet.specs.Words.{word, place_behind, IsInRange};
 
 use bound_commands::USUAL_PIVOTS;
 use inputs::Subject;
 use listed::Memory;
+use split_commands::USUAL_CUTS;
 use std::alloc::Global;
 use wcet_io::{Text, Words};
 
 /// The greatest limit on pivots that the words may name.
 const MOST_PIVOTS: u64 = 10_000_000;
+
+/// The greatest limit on cuts that the words may name.
+const MOST_CUTS: u64 = 100;
+
+/// The greatest seed.
+const MOST_SEED: u64 = 4_294_967_295;
+
+/// The most tasks that a generated system may have.
+const MOST_TASKS: u64 = 8;
 
 /// A command, with its files by name.
 #[derive(Debug, Drop)]
@@ -77,6 +87,17 @@ pub enum Command {
         task: Text,
         certificate: Text,
     },
+    /// `split find` searches for a certificate of cuts for a bound, in cycles, with at most that many
+    /// cuts, which `--cuts C` sets.
+    SplitFind {
+        oil: Text,
+        elf: Text,
+        timing: Text,
+        task: Text,
+        states: Text,
+        bound: u64,
+        cuts: u32,
+    },
     /// `trace record` writes the recording of the run that a schedule plays.
     TraceRecord {
         oil: Text,
@@ -93,10 +114,28 @@ pub enum Command {
         certificate: Text,
         trace: Text,
     },
+    /// `demo` generates a system of that many tasks from a seed, and bounds each of them.
+    Demo {
+        seed: u32,
+        count: usize,
+    },
 }
 
 /// The command of the words; `None` exactly where they have no shape.
 pub fn command_of(alloc: Global, words: &Words) -> Result<Option<Command>, Memory>
+    ensures shape { IfOk result (λ command. command ≡ shapes.command_of words.now) }
+    ensures range { IfOk result (λ command. IfSome command IsInRange) }
+{
+    in_range();
+    shaped(alloc, words)
+}
+
+/// Numbers that the words name are within their ranges.
+fn in_range()
+    ensures { (words : List (List ℕ)) → IfSome (shapes.command_of words) IsInRange }
+{}
+
+fn shaped(alloc: Global, words: &Words) -> Result<Option<Command>, Memory>
     ensures { IfOk result (λ command. command ≡ shapes.command_of words.now) }
 {
     if has_word(words, 0, "check") {
@@ -126,11 +165,17 @@ pub fn command_of(alloc: Global, words: &Words) -> Result<Option<Command>, Memor
     if is_shape(words, "split", "check", 7) {
         return split_check(alloc, words);
     }
+    if begins(words, "split", "find") {
+        return split_find(alloc, words);
+    }
     if is_shape(words, "trace", "record", 6) {
         return trace_record(alloc, words);
     }
     if is_shape(words, "trace", "judge", 8) {
         return trace_judge(alloc, words);
+    }
+    if is_single(words, "demo", 3) {
+        return Ok(demo(words));
     }
     Ok(None)
 }
@@ -273,6 +318,79 @@ fn split_check(alloc: Global, words: &Words) -> Result<Option<Command>, Memory>
     }))
 }
 
+/// The search, if the words behind the list of states are a bound and no more than a limit on cuts.
+fn split_find(alloc: Global, words: &Words) -> Result<Option<Command>, Memory>
+    ensures { IfOk result (λ command. command ≡ shapes.split_find_of words.now) }
+{
+    match cuts_limit(words) {
+        Some(cuts) => split_find_within(alloc, words, cuts),
+        None => Ok(None),
+    }
+}
+
+/// The search with this limit on cuts, if the word for its bound is a number.
+fn split_find_within(alloc: Global, words: &Words, cuts: u32) -> Result<Option<Command>, Memory>
+    requires { 7 < length words.now }
+    ensures { IfOk result (λ command. command
+        ≡ option_map (shapes.split_find words.now cuts) (shapes.number_of (word words.now 7))) }
+{
+    match number_of(words.get(7).as_str()) {
+        Some(bound) => {
+            let oil = word(alloc, words, 2)?;
+            let elf = word(alloc, words, 3)?;
+            let timing = word(alloc, words, 4)?;
+            let task = word(alloc, words, 5)?;
+            let states = word(alloc, words, 6)?;
+            Ok(Some(Command::SplitFind {
+                oil,
+                elf,
+                timing,
+                task,
+                states,
+                bound,
+                cuts,
+            }))
+        }
+        None => Ok(None),
+    }
+}
+
+/// The limit on cuts that the words behind the bound set, if they set one.
+fn cuts_limit(words: &Words) -> Option<u32>
+    ensures limit { result ≡ shapes.cuts_limit words.now }
+    ensures behind { IfSome result (λ _. 7 < length words.now) }
+{
+    if words.len() == 8 {
+        return Some(USUAL_CUTS);
+    }
+    if words.len() == 10 && has_word(words, 8, "--cuts") {
+        return cuts_of(words.get(9));
+    }
+    None
+}
+
+/// The limit on cuts that a word names, if it names one.
+fn cuts_of(word: &Text) -> Option<u32>
+    ensures { result ≡ shapes.cuts_of word.now }
+{
+    match number_within(word, 1, MOST_CUTS) {
+        Some(cuts) => Some(cuts as u32),
+        None => None,
+    }
+}
+
+fn demo(words: &Words) -> Option<Command>
+    requires { length words.now ≡ 3 }
+    ensures { result ≡ shapes.demo_of words.now }
+{
+    let seed = number_within(words.get(1), 0, MOST_SEED)?;
+    let count = number_within(words.get(2), 1, MOST_TASKS)?;
+    Some(Command::Demo {
+        seed: seed as u32,
+        count: count as usize,
+    })
+}
+
 fn trace_record(alloc: Global, words: &Words) -> Result<Option<Command>, Memory>
     requires { length words.now ≡ 6 }
     ensures { IfOk result (λ command. command ≡ Some (shapes.trace_record words.now)) }
@@ -403,6 +521,13 @@ fn word(alloc: Global, words: &Words, place: usize) -> Result<Text, Memory>
     ensures { IfOk result (λ text. text ≡ word words.now place) }
 {
     Text::from_str(alloc, words.get(place).as_str())
+}
+
+/// Whether the first two words are these.
+fn begins(words: &Words, first: &str, second: &str) -> bool
+    ensures { result ≡ shapes.begins words.now first.now second.now }
+{
+    has_word(words, 0, first) && has_word(words, 1, second)
 }
 
 /// Whether there are so many words, the first two of which are these.

@@ -53,3 +53,8 @@ pub returns-in-SplitCheck : goal.returns-in-SplitCheck
 returns-in-SplitCheck g c =
     let P : Command → Type 0 = λ k. StepsOf (IsCall g.F.Files.outside g.F.Files.reads) (Some k) c.args.files.now c.split_checked.result c.split_checked.new.files in
     subst P (sym c.in-SplitCheck.is) c.split_checked.ensures
+
+pub returns-in-SplitFind : goal.returns-in-SplitFind
+returns-in-SplitFind g c =
+    let P : Command → Type 0 = λ k. StepsOf (IsCall g.F.Files.outside g.F.Files.reads) (Some k) c.args.files.now c.split_found.result c.split_found.new.files in
+    subst P (sym c.in-SplitFind.is) c.split_found.ensures
