@@ -434,3 +434,89 @@ fn runs_are_recorded_and_recordings_judged(rt: HostRuntime) -> Result<(), Fail> 
     }
     Ok(())
 }
+
+/// The files of the system of two tasks, with a list of states and a certificate.
+fn two_tasks<'a>(beside: &'a [u8]) -> [(&'a str, &'a [u8]); 5] {
+    [
+        ("oil", TWO_TASKS.as_bytes()),
+        ("elf", TWO_TASKS_ELF.as_slice()),
+        ("times", TWO_TASKS_TIMES.as_bytes()),
+        ("k", TWO_TASKS_CLOSED.as_bytes()),
+        ("c", beside),
+    ]
+}
+
+#[test]
+#[rattlefmt::skip]
+fn searches_for_cuts_end_with_their_reason(rt: HostRuntime) -> Result<(), Fail> {
+    for (words, text, status) in [
+        ("split find oil elf times T k 126", "no tree\n", Status::No),
+        ("split find oil elf times T k 127 --cuts 3", "budget cuts 3\n", Status::Budget),
+        ("split find oil elf times T k 127 --cuts 0", "words\n", Status::Words),
+        ("split find oil elf times T k 127 --cuts 101", "words\n", Status::Words),
+        ("split find oil elf times T k 127 --pivots 3", "words\n", Status::Words),
+        ("split find oil elf times T k --cuts 3", "words\n", Status::Words),
+        ("split find oil elf times T k 00000000127", "words\n", Status::Words),
+        ("split find oil elf times X k 127", "task\n", Status::Input),
+        ("split find oil elf times T c 127", "states Json\n", Status::Input),
+    ] {
+        let (ended, out) = outcome(rt.alloc(), words, &two_tasks(b"["), Failing::Nothing)?;
+        assert_eq!(rt; ended, status);
+        assert_eq!(rt; out.written(), text.as_bytes());
+    }
+    Ok(())
+}
+
+#[test]
+fn a_found_certificate_of_cuts_is_good_for_its_bound_alone(rt: HostRuntime) -> Result<(), Fail> {
+    let words = "split find oil elf times T k 127";
+    let (ended, out) = outcome(rt.alloc(), words, &two_tasks(b""), Failing::Nothing)?;
+    assert_eq!(rt; ended, Status::Ok);
+    let mut found = Vec::from_slice(rt.alloc(), out.written())?;
+    for (last_digit, text, status) in [
+        (b'7', "yes T 127\n", Status::Ok),
+        (b'6', "no leaf 2 bound\n", Status::No),
+    ] {
+        // The text begins with `{"bound":"127"`.
+        found[12] = last_digit;
+        let words = "split check oil elf times T c";
+        let held = two_tasks(found.as_slice());
+        let (ended, out) = outcome(rt.alloc(), words, &held, Failing::Nothing)?;
+        assert_eq!(rt; ended, status);
+        assert_eq!(rt; out.written(), text.as_bytes());
+    }
+    Ok(())
+}
+
+#[test]
+#[rattlefmt::skip]
+fn generated_systems_are_bounded(rt: HostRuntime) -> Result<(), Fail> {
+    for (words, text, status) in [
+        ("demo 1 1", "P0 bound 66 seen 56\nstates 2\n", Status::Ok),
+        ("demo 1 3", "P0 bound 315 seen 145\nP1 bound 193 seen 89\nP2 bound 92 seen 42\nstates 8\n", Status::Ok),
+        ("demo 1 9", "words\n", Status::Words),
+        ("demo 1 0", "words\n", Status::Words),
+        ("demo 4294967296 1", "words\n", Status::Words),
+        ("demo 1", "words\n", Status::Words),
+    ] {
+        let (ended, out) = outcome(rt.alloc(), words, &[], Failing::Nothing)?;
+        assert_eq!(rt; ended, status);
+        assert_eq!(rt; out.written(), text.as_bytes());
+    }
+    Ok(())
+}
+
+#[test]
+fn small_generated_systems_give_the_same_answer_twice(rt: HostRuntime) -> Result<(), Fail> {
+    for seed in 1..17_u32 {
+        for count in 1..3_u32 {
+            let words = format!(in rt.alloc(); "demo {seed} {count}")?;
+            let (ended, out) = outcome(rt.alloc(), &words, &[], Failing::Nothing)?;
+            let (again, same) = outcome(rt.alloc(), &words, &[], Failing::Nothing)?;
+            assert_eq!(rt; ended, Status::Ok);
+            assert_eq!(rt; again, Status::Ok);
+            assert_eq!(rt; out.written(), same.written());
+        }
+    }
+    Ok(())
+}
