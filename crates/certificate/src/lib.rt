@@ -31,6 +31,3 @@ pub use reading::states_of;
 pub use verdict::{Verdict, Why};
 pub use write::{CertText, StatesText, write_cert, write_states};
 pub use writing::{digits_value, list_of};
-
-#[cfg(test)]
-mod tests;

@@ -26,6 +26,3 @@ pub use image::{Image, Section, Segment};
 pub use listed::Memory;
 pub use plain::plain_elf;
 pub use symbol::{Bytes, Name, Symbol, Symbols};
-
-#[cfg(test)]
-mod tests;

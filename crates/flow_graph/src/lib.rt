@@ -26,8 +26,6 @@ mod names;
 mod node;
 mod numbering;
 mod reach;
-#[cfg(test)]
-mod tests;
 
 pub use building::{Entries, build, entries_of};
 pub use edge::{Edge, EdgeKind, Edges};

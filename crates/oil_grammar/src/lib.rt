@@ -20,6 +20,3 @@ pub use listed::Memory;
 pub use reading::read_oil;
 pub use tree::{Attribute, Attributes, Bytes, Name, Object, Objects, Tree, Value};
 pub use writing::write_oil;
-
-#[cfg(test)]
-mod tests;

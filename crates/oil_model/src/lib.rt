@@ -27,6 +27,3 @@ pub use meaning::model;
 pub use system::{
     Alarm, Alarms, Ids, Isr, Isrs, Name, Names, Resource, Resources, System, Task, Tasks,
 };
-
-#[cfg(test)]
-mod tests;

@@ -22,6 +22,3 @@ pub use kernel::{Active, Kernel, Reply, TaskStates};
 pub use listed::Memory;
 pub use service::{Argument, Code, Service};
 pub use source::Source;
-
-#[cfg(test)]
-mod tests;

@@ -32,6 +32,3 @@ mod take;
 pub use labels::{Label, NoEntry, StartFault, StepFault, Stuck};
 pub use listed::Memory;
 pub use machine::Machine;
-
-#[cfg(test)]
-mod tests;

@@ -41,6 +41,3 @@ pub use reading::read_schedule;
 pub use response::{PlayFault, PlayKind, Response, Responses};
 pub use schedule::{Arrival, Arrivals, Schedule};
 pub use turn::Turn;
-
-#[cfg(test)]
-mod tests;

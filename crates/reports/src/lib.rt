@@ -22,6 +22,3 @@ pub use solved::{
     wide_refusal,
 };
 pub use verdicts::{cert_refusal, no_refusal, states_refusal, yes_text};
-
-#[cfg(test)]
-mod tests;

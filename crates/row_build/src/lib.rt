@@ -34,6 +34,3 @@ mod visits;
 pub use links_made::links;
 pub use row_squeeze::{Link, Links};
 pub use rows_made::rows;
-
-#[cfg(test)]
-mod tests;

@@ -19,8 +19,6 @@ mod functs;
 mod instruction;
 mod kinds;
 mod register;
-#[cfg(test)]
-mod tests;
 
 pub use decoding::decode;
 pub use encoding::encode;

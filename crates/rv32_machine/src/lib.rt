@@ -23,8 +23,6 @@ mod next;
 mod places;
 mod registers;
 mod store;
-#[cfg(test)]
-mod tests;
 mod turns;
 
 pub use arithmetic::is_taken;

@@ -29,6 +29,3 @@ pub use parts::copied;
 pub use running::running_in;
 pub use starting::{initial, rules};
 pub use succeeding::successors;
-
-#[cfg(test)]
-mod tests;

@@ -25,6 +25,3 @@ pub use listed::Memory;
 pub use read::read_timing;
 pub use timing::{Extra, Extras, Loop, Loops, Name, NamedNumber, NamedNumbers, Timing};
 pub use unit::unit_timing;
-
-#[cfg(test)]
-mod tests;

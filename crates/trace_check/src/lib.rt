@@ -32,6 +32,3 @@ pub use reading::read_trace;
 pub use trace::{Event, Events, Trace};
 pub use verdict::TraceVerdict;
 pub use writing::{TraceText, write_trace};
-
-#[cfg(test)]
-mod tests;

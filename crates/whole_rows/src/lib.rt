@@ -39,6 +39,3 @@ pub enum DualVerdict {
     Column { column: usize },
     Bound,
 }
-
-#[cfg(test)]
-mod tests;

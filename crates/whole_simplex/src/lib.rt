@@ -15,8 +15,6 @@ mod ratio_test;
 mod rays;
 mod solving;
 mod table;
-#[cfg(test)]
-mod tests;
 
 pub use entries::Entries;
 pub use laws::divisors_are_shared;

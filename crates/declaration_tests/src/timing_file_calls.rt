@@ -1,8 +1,8 @@
-use super::*;
 use listed::Fault;
 use osek_kernel::Service;
 use rv32_decode::Class;
 use std::test::*;
+use timing_file::*;
 
 const FIRST: &str =
     "{\"version\":1,\"classes\":{\"default\":1},\"services\":{\"default\":20},\"alarm\":30,\"interrupt\":10,\"ticks\":{\"C\":1}}";

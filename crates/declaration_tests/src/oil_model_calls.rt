@@ -1,5 +1,5 @@
-use super::*;
 use oil_grammar::{Tree, read_oil};
+use oil_model::*;
 use std::alloc::Global;
 use std::test::*;
 

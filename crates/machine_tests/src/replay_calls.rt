@@ -1,7 +1,7 @@
 //! Schedules of the system of a lone image, whose one mode is `Main`.
-use super::*;
 use listed::Fault;
 use oil_model::lone_system;
+use replay::*;
 use std::test::*;
 
 #[rattlefmt::skip]

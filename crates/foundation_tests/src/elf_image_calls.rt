@@ -1,7 +1,7 @@
 ghost use Rattle.std.specs.Prelude.{◌≡◌, ◌<◌, ◌≤◌, length, IfOk};
 ghost use Rattle.elf_image.specs.Plain.{IsPlain};
 
-use super::*;
+use elf_image::*;
 use std::alloc::Global;
 use std::test::*;
 

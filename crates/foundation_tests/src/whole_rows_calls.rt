@@ -2,12 +2,12 @@ ghost use Rattle.std.specs.Prelude.{◌≡◌, ◌≢◌, [], ◌∷◌, ◌<◌
 ghost use Rattle.whole_rows.specs.Terms.{AreTerms};
 ghost use Rattle.whole_rows.specs.Rows.{sample};
 
-use crate::{
+use std::alloc::Global;
+use std::test::Fail;
+use whole_rows::{
     DualVerdict, Memory, Row, RowFault, RowTerm, Rows, Term, Terms, combine, combined_entry,
     first_failing, first_negative, gcd, primitive,
 };
-use std::alloc::Global;
-use std::test::Fail;
 
 /// The row of these numbers.
 fn row_of(alloc: Global, numbers: &[i64]) -> Result<Row, Memory>

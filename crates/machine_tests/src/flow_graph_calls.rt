@@ -1,6 +1,6 @@
 //! Graphs of small programs, as GNU as lays them out, with the lone system.
-use super::*;
 use elf_image::flat;
+use flow_graph::*;
 use oil_model::lone_system;
 use std::alloc::Global;
 use std::test::*;

@@ -3,13 +3,13 @@ ghost use Rattle.std.specs.Prelude.{◌≡◌, IfSome, length};
 ghost use Rattle.oil_grammar.specs.Grammar.{IsWellFormed};
 ghost use Rattle.oil_model.specs.System.{IsLawful};
 
-use super::*;
 use abstract_sched::{AbsState, IsrAt, TaskAt, TaskStates};
 use elf_image::{Image, Name, Symbol, Symbols, flat, plain_elf, read_elf};
 use listed::Fault;
 use oil_grammar::{Tree, read_oil};
 use oil_model::{Ids, System, lone_system, model};
 use osek_kernel::Context;
+use scheduler_moves::*;
 use std::alloc::Global;
 use std::test::*;
 use timing_file::{read_timing, unit_timing};

@@ -1,6 +1,6 @@
 //! Texts that no other test prints.
-use crate::{bound_text, unbounded_refusal};
 use command_steps::Reason;
+use reports::{bound_text, unbounded_refusal};
 use std::test::Fail;
 use whole_rows::Row;
 

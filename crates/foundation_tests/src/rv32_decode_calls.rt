@@ -1,7 +1,7 @@
 //! Words as GNU as for RISC-V writes them, and instructions as GNU objdump reads them.
 ghost use Rattle.std.specs.Prelude.{◌≡◌, ◌<◌};
 
-use super::*;
+use rv32_decode::*;
 use std::test::Fail;
 
 fn x(number: u8) -> RegNo

@@ -1,5 +1,5 @@
-use super::*;
 use oil_model::lone_system;
+use osek_kernel::*;
 use std::test::*;
 
 /// With ample memory the lone task starts, takes RES_SCHEDULER, may not end with it, gives it back

@@ -1,9 +1,9 @@
 //! Traces of the system of a lone image, which has the mode `Main`, the task `T` and no source.
-use super::*;
 use flow_graph::Sites;
 use listed::Fault;
 use oil_model::lone_system;
 use std::test::*;
+use trace_check::*;
 
 #[rattlefmt::skip]
 const FAULTS: [(&[u8], TraceKind); 9] = [

@@ -1,6 +1,6 @@
 //! A far call, its return and a service, as GNU as lays them out, from the first word to the `ecall`.
-use super::*;
 use elf_image::{Image, flat};
+use rv32_machine::*;
 use std::test::Fail;
 
 /// auipc ra, 0; jalr ra, 20(ra); li a0, 0; li a7, 2; ecall; ret

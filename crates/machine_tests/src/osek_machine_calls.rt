@@ -5,12 +5,12 @@ ghost use Rattle.oil_grammar.specs.Grammar.{IsWellFormed};
 ghost use Rattle.oil_model.specs.System.{IsLawful};
 ghost use Rattle.osek_machine.specs.Machine.{Fits};
 
-use super::*;
 use elf_image::{Image, Name, Symbol, Symbols, plain_elf, read_elf};
 use listed::Fault;
 use oil_grammar::{Tree, read_oil};
 use oil_model::{System, model};
 use osek_kernel::{Context, Source};
+use osek_machine::*;
 use std::alloc::Global;
 use std::test::*;
 

@@ -1,4 +1,4 @@
-use super::*;
+use oil_grammar::*;
 use std::alloc::Global;
 use std::test::*;
 

@@ -2,10 +2,10 @@ ghost use Rattle.std.specs.Prelude.{◌≡◌, ◌≢◌, ◌≤ℤ◌, [], ◌�
 ghost use Rattle.whole_rows.specs.Row.{IsInRange};
 ghost use Rattle.whole_rows.specs.Terms.{AreTerms};
 
-use crate::{Memory, SolveFault, solve};
 use std::alloc::Global;
 use std::test::Fail;
 use whole_rows::{Row, Rows, Term, Terms};
+use whole_simplex::{Memory, SolveFault, solve};
 
 /// The term of column 0.
 fn one_term(alloc: Global, entry: i128) -> Result<Terms, Memory>

@@ -6,12 +6,12 @@ ghost use Rattle.oil_model.specs.System.{IsLawful};
 ghost use Rattle.abstract_sched.specs.States.{same_state};
 ghost use Rattle.scheduler_moves.specs.Closed.{IsClosed};
 
-use super::*;
 use abstract_sched::{AbsState, TaskAt, TaskStates, states_differ};
 use elf_image::{Image, Name, Symbol, Symbols, plain_elf, read_elf};
 use listed::Memory;
 use oil_grammar::{Tree, read_oil};
 use oil_model::{Ids, System, model};
+use row_build::*;
 use scheduler_moves::{Closure, closed};
 use std::alloc::Global;
 use std::test::*;

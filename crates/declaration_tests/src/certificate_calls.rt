@@ -1,4 +1,4 @@
-use super::*;
+use certificate::*;
 use std::alloc::{AllocError, Global};
 use std::test::*;
 
