@@ -15,7 +15,7 @@ use listed::Memory;
 use loops_command::loop_bounds;
 use reports::words_refusal;
 use show_commands::{replayed, show_code, show_oil};
-use split_commands::{split_checked, split_found};
+use split_commands::{Wanted, split_checked, split_found};
 use std::alloc::Global;
 use trace_commands::{trace_judged, trace_recorded};
 use wcet_io::{Bytes, Files, Sink, SureFiles, SureSink, Words};
@@ -122,7 +122,13 @@ fn answer_command<F: Files>(alloc: Global, command: &Command, files: &mut F) -> 
             states,
             bound,
             cuts,
-        } => split_found(alloc, oil, elf, timing, task, states, *bound, *cuts, files),
+        } => {
+            let wanted = Wanted {
+                bound: *bound,
+                cuts: *cuts,
+            };
+            split_found(alloc, oil, elf, timing, task, states, wanted, files)
+        }
         Command::TraceRecord {
             oil,
             elf,
