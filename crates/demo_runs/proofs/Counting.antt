@@ -1,16 +1,15 @@
 -- Each loop of a generated system is a counted loop with its declared bound.
-use Rattle.std.proofs.Common.{◌≡◌, ◌⊎◌, ℕ, zero, suc, ◌+◌, ◌-◌, ◌*◌, ◌%◌, ◌^◌, ◌<◌, ◌≤◌, ℤ, pos, negsuc, Bool, true, false, List, [], ◌∷◌, length, map, Option, Some, None, inl, inr, refl, sym, ap, ◌∙◌, subst, arith}
-use Rattle.std.specs.Prelude.{slice_get, slice_index_or, nat_le, All, Contains, IfSome, ◌&&◌}
-use Rattle.std.specs.List.{AllZip}
-use Rattle.std.proofs.lemmas.Bool.{and_parts, cases_lt, le-leb, leb-true, false≢true}
+use Rattle.std.proofs.Common.{◌≡◌, ◌⊎◌, ℕ, zero, suc, ◌+◌, ◌-◌, ◌*◌, ◌%◌, ◌<◌, ◌≤◌, pos, negsuc, Bool, true, false, List, [], ◌∷◌, map, Option, Some, None, inl, inr, refl, sym, ap, ◌∙◌, subst, arith}
+use Rattle.std.specs.Prelude.{slice_get, slice_index_or, nat_le, All, Contains, IfSome}
+use Rattle.std.proofs.lemmas.Bool.{and_parts, cases_lt, leb-true, false≢true}
 use Rattle.std.proofs.lemmas.Int.{ints}
 use Rattle.std.proofs.lemmas.List.Elements.{All-contains, All-map}
-use Rattle.std.proofs.lemmas.Option.{same_Some, slice_get-get_or, slice_get_read}
+use Rattle.std.proofs.lemmas.Option.{same_Some, slice_get-get_or}
 use Rattle.rv32_decode.specs.declared.instruction.Insn.{Insn}
 use Rattle.rv32_decode.specs.declared.instruction.Insn.TheVariants.{Ecall}
 use Rattle.rv32_decode.specs.declared.instruction.BranchOp.TheVariants.{Bne}
 use Rattle.rv32_machine.specs.Code.{insn_at}
-use Rattle.rv32_machine.specs.Execution.{following}
+use Rattle.rv32_machine.specs.Execution.{following, moved}
 use Rattle.rv32_machine.specs.declared.turns.ServiceAt.{ServiceAt}
 use Rattle.rv32_machine.specs.Places.{service_at}
 use Rattle.timing_file.specs.declared.timing.Loop.{Loop}
@@ -23,21 +22,21 @@ use Rattle.flow_graph.specs.Graph.{Program, next_node, node_at, edge_to, edges_o
 use Rattle.flow_graph.specs.Judging.{IsGraph, IsEdge, IsTarget}
 use Rattle.wcet_atomic_blocks.specs.Plants.{PlantData, IsPlant, IsPlantOf}
 use Rattle.wcet_atomic_blocks.proofs.GraphFacts.{beside, leaving_there}
-use Rattle.counted_loops.specs.Counted.{HasEdge, HasNode, GoesOnTo, EntersAt, BeginsNowhere, in_loop, Closes, CountsOnce, IsCounted}
+use Rattle.counted_loops.specs.Counted.{HasEdge, GoesOnTo, EntersAt, BeginsNowhere, in_loop, IsCounted}
 use Rattle.counted_loops.specs.Rounds.{AreRounds}
-use Rattle.counted_loops.specs.Words.{IsWordIn, IsPlainAt, loads, adds}
+use Rattle.counted_loops.proofs.Going.{is_in}
+use Rattle.counted_loops.specs.Words.{IsWordIn, loads, adds}
 use Rattle.demo_gen.specs.declared.task.DemoTask.{DemoTask}
 use Rattle.demo_gen.specs.Demo.{add, back, tail_of, code_of, loop_of, the_image, the_system, the_timing}
 use Rattle.demo_gen.specs.Draws.{base, size_of}
 use Rattle.demo_gen.specs.Working.Drawn.{Follow, AreDrawn}
 use Rattle.demo_plants.proofs.Closing.{same_plant}
-use Rattle.demo_plants.proofs.CodeOf.{at, IsPlaced, step_at, tail_at}
+use Rattle.demo_plants.proofs.CodeOf.{at, IsPlaced, tail_at}
 use Rattle.demo_plants.proofs.EntriesOf.{begins, entries_are, the_program, is_demo}
 use Rattle.demo_plants.proofs.Faultless.{tasks_apart}
-use Rattle.demo_plants.proofs.NodesOf.{never, IsDemo, IsInTask, next_address, address_before, back_address, nowhere, good, only_edge, either_edge}
+use Rattle.demo_plants.proofs.NodesOf.{never, IsDemo, IsInTask, address_before, back_address, nowhere, good, only_edge, either_edge}
 use Rattle.demo_plants.proofs.Plant.{node_inside}
-use Rattle.demo_plants.proofs.Simple.{plant_with}
-use Rattle.demo_runs.proofs.Reached.{has_node}
+use Rattle.demo_runs.proofs.Reached.{GoesAt, goes_at, edges_on, has_node}
 
 -- ---- Rounds
 
@@ -65,31 +64,26 @@ straight_edge node next edge is arrives = record {
   to = sym (ap (λ (n : Node). n.address) (same_Some (next_node node) next (ap (λ (e : Edge Node). e.to) is ∙ arrives)));
 }
 
-onward_goes : (program : Program) (node next : Node) (rd rs1 : ℕ) (imm : ℤ) (k : ℕ) (edge : Edge Node) → program.code node.address ≡ Some (add rd rs1 imm)
-    → slice_get (edges_of program.code node) k ≡ Some edge → edge.to ≡ Some next → GoesOn node next edge.kind
-onward_goes program node next rd rs1 imm k edge here leaves arrives =
-    let edges : edges_of program.code node ≡ edge_to kinds.Straight (next_node node) ∷ [] = rw here refl in
-    straight_edge node next edge (only_edge (edges_of program.code node) (edge_to kinds.Straight (next_node node)) edge k edges leaves) arrives
-
 edge_goes : (program : Program) (tasks : List DemoTask) (node next : Node) (k : ℕ) (edge : Edge Node) → IsDemo program tasks → (within : IsInTask tasks node)
     → slice_get (edges_of program.code node) k ≡ Some edge → edge.to ≡ Some next → GoesOn node next edge.kind ⊎ GoesBack tasks node next within
-edge_goes program tasks node next k edge demo within leaves arrives = by_part (cases_lt within.place within.task.steps)
+edge_goes program tasks node next k edge demo within leaves arrives = by_word (goes_at program within.task within.place placed within.below)
   where
     placed : IsPlaced program.code program.has_word within.task
     placed = demo.placed node.context within.task within.there
 
-    here : (insn : Insn) → slice_get (code_of within.task) within.place ≡ Some insn → program.code node.address ≡ Some insn
-    here insn stands = ap program.code within.address_is ∙ placed.insn within.place insn stands
+    tail_here : (r : ℕ) (insn : Insn) → within.place ≡ within.task.steps + r → slice_get (tail_of within.task.bound) r ≡ Some insn
+        → program.code node.address ≡ Some insn
+    tail_here r insn is stands =
+        ap program.code (within.address_is ∙ ap (at within.task) is) ∙ placed.insn (within.task.steps + r) insn (tail_at within.task r ∙ stands)
 
-    tail_here : (r : ℕ) (insn : Insn) → within.place ≡ within.task.steps + r → slice_get (tail_of within.task.bound) r ≡ Some insn → program.code node.address ≡ Some insn
-    tail_here r insn is stands = here insn (ap (slice_get (code_of within.task)) is ∙ (tail_at within.task r ∙ stands))
-
-    onward : (rd rs1 : ℕ) (imm : ℤ) → program.code node.address ≡ Some (add rd rs1 imm) → GoesOn node next edge.kind ⊎ GoesBack tasks node next within
-    onward rd rs1 imm is = inl (onward_goes program node next rd rs1 imm k edge is leaves arrives)
+    onward : GoesAt program node.address → GoesOn node next edge.kind
+    onward goes =
+        straight_edge node next edge
+        (only_edge (edges_of program.code node) (edge_to kinds.Straight (next_node node)) edge k (edges_on program node goes) leaves) arrives
 
     branch : within.place ≡ within.task.steps + 2 → program.code node.address ≡ Some (back 6) → GoesOn node next edge.kind ⊎ GoesBack tasks node next within
     branch is branches =
-        let target = node_at node (Rattle.rv32_machine.specs.Execution.moved node.address (negsuc 3)) in
+        let target = node_at node (moved node.address (negsuc 3)) in
         let untaken = edge_to kinds.Straight (next_node node) in
         let taken = edge_to kinds.Taken target in
         let edges : edges_of program.code node ≡ untaken ∷ taken ∷ [] = rw branches refl in
@@ -100,7 +94,7 @@ edge_goes program tasks node next k edge demo within leaves arrives = by_part (c
               inr (record {
                 from = is;
                 to = sym (ap (λ (n : Node). n.address) same)
-                    ∙ (ap (λ a. Rattle.rv32_machine.specs.Execution.moved a (negsuc 3)) (within.address_is ∙ ap (at within.task) (is ∙ two))
+                    ∙ (ap (λ a. moved a (negsuc 3)) (within.address_is ∙ ap (at within.task) (is ∙ two))
                     ∙ back_address within.task (within.task.steps + 1) placed.high (omega arith));
               })
         ]
@@ -114,18 +108,11 @@ edge_goes program tasks node next k edge demo within leaves arrives = by_part (c
         let ends = (good program tasks node demo within).ends service is in
         absurd (never (ap (λ (e : Edge Node). e.to) (only_edge (edges_of program.code node) nowhere edge k ends.edges leaves) ∙ arrives))
 
-    by_rest : (r : ℕ) → within.place ≡ within.task.steps + r → r < 6 → GoesOn node next edge.kind ⊎ GoesBack tasks node next within
-    by_rest zero is low = onward 6 0 (pos (within.task.bound + 1)) (tail_here 0 (add 6 0 (pos (within.task.bound + 1))) is refl)
-    by_rest (suc zero) is low = onward 6 6 (negsuc 0) (tail_here 1 (add 6 6 (negsuc 0)) is refl)
-    by_rest (suc (suc zero)) is low = branch is (tail_here 2 (back 6) is refl)
-    by_rest (suc (suc (suc zero))) is low = onward 10 0 (pos 0) (tail_here 3 (add 10 0 (pos 0)) is refl)
-    by_rest (suc (suc (suc (suc zero)))) is low = onward 17 0 (pos 2) (tail_here 4 (add 17 0 (pos 2)) is refl)
-    by_rest (suc (suc (suc (suc (suc zero))))) is low = called (tail_here 5 Ecall is refl) (service_at program.code node.address) refl
-    by_rest (suc (suc (suc (suc (suc (suc r)))))) is low = absurd (omega arith)
-
-    by_part : (within.place < within.task.steps) ⊎ (within.task.steps ≤ within.place) → GoesOn node next edge.kind ⊎ GoesBack tasks node next within
-    by_part (inl early) = onward 5 5 (pos 1) (here (add 5 5 (pos 1)) (step_at within.task within.place early))
-    by_part (inr late) = by_rest (within.place - within.task.steps) (omega arith) (omega (arith, within.below))
+    by_word : GoesAt program (at within.task within.place) ⊎ ((within.place ≡ within.task.steps + 2) ⊎ (within.place ≡ within.task.steps + 5))
+        → GoesOn node next edge.kind ⊎ GoesBack tasks node next within
+    by_word (inl goes) = inl (onward (subst (GoesAt program) (sym within.address_is) goes))
+    by_word (inr (inl is)) = branch is (tail_here 2 (back 6) is refl)
+    by_word (inr (inr is)) = called (tail_here 5 Ecall is refl) (service_at program.code node.address) refl
 
 -- the node to which an edge leads by its number
 leads_there : (nodes : List Node) (to : Option Node) (numbered : Option ℕ) (next : ℕ) (target : Node) → numbered ≡ Some next → IsTarget nodes to numbered
@@ -141,9 +128,10 @@ flow_goes : (tasks : List DemoTask) (flow : Flow) (source target : Node) (kind :
 flow_goes tasks flow source target kind drawn graph has within =
     let from = leaving_there (the_program tasks) flow has.number has.leaving graph has.leaves in
     let same : from.mate ≡ source = same_Some from.mate source (sym from.stands ∙ has.stands) in
-    let mate = beside (IsEdge flow.nodes) (edges_of (the_program tasks).code from.mate) has.leaving.edges has.place has.edge from.related.edges_are has.is_edge in
-    let leaves : slice_get (edges_of (the_program tasks).code source) has.place ≡ Some mate.mate =
-    subst (λ n. slice_get (edges_of (the_program tasks).code n) has.place ≡ Some mate.mate) same mate.stands in
+    let code = (the_program tasks).code in
+    let mate = beside (IsEdge flow.nodes) (edges_of code from.mate) has.leaving.edges has.place has.edge from.related.edges_are has.is_edge in
+    let leaves : slice_get (edges_of code source) has.place ≡ Some mate.mate =
+    subst (λ n. slice_get (edges_of code n) has.place ≡ Some mate.mate) same mate.stands in
     let to : mate.mate.to ≡ Some target = leads_there flow.nodes mate.mate.to has.edge.to has.next target has.arrives mate.related.to_is has.leads in
     let kinds_are : mate.mate.kind ≡ kind = sym mate.related.kind_is ∙ has.kind_is in
     subst (λ k. GoesOn source target k ⊎ GoesBack tasks source target within) kinds_are
@@ -177,9 +165,6 @@ in_bounds : (l : Loop) (address : ℕ) → in_loop l address ≡ true → (l.fro
 in_bounds l address is =
     let parts = and_parts (nat_le l.from address) (nat_le address l.to) is in (leb-true l.from address parts.0, leb-true address l.to parts.1)
 
-within_bounds : (l : Loop) (address : ℕ) → l.from ≤ address → address ≤ l.to → in_loop l address ≡ true
-within_bounds l address low high = rw (le-leb l.from address low, le-leb address l.to high) refl
-
 out_of_bounds : (l : Loop) (address : ℕ) → (l.from ≤ address → address ≤ l.to → ⊥) → in_loop l address ≡ false
 out_of_bounds l address never_there = by (in_loop l address) refl
   where
@@ -193,18 +178,23 @@ word_is task address whole word = omega (arith, whole, word.low, word.high, word
 
 -- ---- How the loop is come into
 
+entry_outside : (tasks : List DemoTask) (i k : ℕ) (other task : DemoTask) → AreDrawn tasks → slice_get tasks i ≡ Some other
+    → slice_get tasks k ≡ Some task → in_loop (loop_of task) other.entry ≡ false
+entry_outside tasks i k other task drawn there there' =
+    out_of_bounds (loop_of task) other.entry
+    (λ low high. let same : other ≡ task =
+    one_task tasks i k other task other.entry drawn there there' (omega arith) (omega arith) (omega arith) (omega arith) in
+    let begin = ap (λ (t : DemoTask). t.entry) same in omega (arith, begin, low))
+
 none_begins : (tasks : List DemoTask) (k : ℕ) (task : DemoTask) → AreDrawn tasks → slice_get tasks k ≡ Some task
     → BeginsNowhere (entries_of (the_image tasks) (the_system tasks)) (in_loop (loop_of task))
 none_begins tasks k task drawn there =
     subst (λ entries. BeginsNowhere entries (in_loop (loop_of task))) (sym (entries_are tasks drawn))
     (All-map (λ entry. IfSome entry (λ address. in_loop (loop_of task) address ≡ false)) begins tasks
-    (λ i d below. out_of_bounds (loop_of task) (slice_index_or tasks i d).entry
-    (λ low high. let same : slice_index_or tasks i d ≡ task = one_task tasks i k (slice_index_or tasks i d) task (slice_index_or tasks i d).entry drawn (slice_get-get_or tasks i d below) there
-    (omega arith) (omega arith) (omega arith) (omega arith) in
-    let begin = ap (λ (t : DemoTask). t.entry) same in omega (arith, begin, low))))
+    (λ i d below. entry_outside tasks i k (slice_index_or tasks i d) task drawn (slice_get-get_or tasks i d below) there))
 
-enters_at_front : (tasks : List DemoTask) (flow : Flow) (k : ℕ) (task : DemoTask) → AreDrawn tasks → IsGraph (the_program tasks) flow → slice_get tasks k ≡ Some task
-    → EntersAt flow (in_loop (loop_of task)) (in_loop (loop_of task)) (loop_of task).from
+enters_at_front : (tasks : List DemoTask) (flow : Flow) (k : ℕ) (task : DemoTask) → AreDrawn tasks → IsGraph (the_program tasks) flow
+    → slice_get tasks k ≡ Some task → EntersAt flow (in_loop (loop_of task)) (in_loop (loop_of task)) (loop_of task).from
 enters_at_front tasks flow k task drawn graph there source target kind has comes outside = by (flow_goes tasks flow source target kind drawn graph has within)
   where
     within : IsInTask tasks source
@@ -223,7 +213,7 @@ enters_at_front tasks flow k task drawn graph there source target kind has comes
     bounds = in_bounds (loop_of task) target.address comes
 
     not_there : (loop_of task).from ≤ source.address → source.address ≤ (loop_of task).to → ⊥
-    not_there low high = false≢true (sym outside ∙ within_bounds (loop_of task) source.address low high)
+    not_there low high = false≢true (sym outside ∙ is_in (loop_of task).from (loop_of task).to source.address low high)
 
     by : GoesOn source target kind ⊎ GoesBack tasks source target within → GoesOnTo (loop_of task).from source.address kind target.address
     by (inl on) =
@@ -243,8 +233,11 @@ enters_at_front tasks flow k task drawn graph there source target kind has comes
 
 -- ---- The loop
 
+abbrev IsCountedOf : List DemoTask → Flow → Loop → ℕ → Type 0
+IsCountedOf tasks flow l bound = IsCounted (insn_at (the_image tasks)) (entries_of (the_image tasks) (the_system tasks)) flow l bound
+
 counted : (tasks : List DemoTask) (flow : Flow) (k : ℕ) (task : DemoTask) → AreDrawn tasks → IsGraph (the_program tasks) flow → slice_get tasks k ≡ Some task
-    → IsCounted (insn_at (the_image tasks)) (entries_of (the_image tasks) (the_system tasks)) flow (loop_of task) task.bound
+    → IsCountedOf tasks flow (loop_of task) task.bound
 counted tasks flow k task drawn graph there = record {
   op = Bne;
   counter = 6;
@@ -257,7 +250,7 @@ counted tasks flow k task drawn graph there = record {
     offset = negsuc 3;
     branch = placed.insn (task.steps + 2) (back 6) (tail_at task 2);
     compares = tt;
-    back = ap (λ n. Rattle.rv32_machine.specs.Execution.moved (at task n) (negsuc 3)) two ∙ back_address task (task.steps + 1) placed.high (omega arith);
+    back = ap (λ n. moved (at task n) (negsuc 3)) two ∙ back_address task (task.steps + 1) placed.high (omega arith);
     counter_counts = λ is. omega (arith, is);
     apart = λ is. omega (arith, is);
   };
@@ -303,17 +296,18 @@ abbrev IsCountedIn : PlantData → Loop → Type 0
 IsCountedIn plant l = IsCounted (insn_at plant.image) (entries_of plant.image plant.system) plant.flow l l.bound
 
 all_counted : (tasks : List DemoTask) (flow : Flow) → AreDrawn tasks → IsGraph (the_program tasks) flow
-    → All (λ l. IsCounted (insn_at (the_image tasks)) (entries_of (the_image tasks) (the_system tasks)) flow l l.bound) (map loop_of tasks)
+    → All (λ l. IsCountedOf tasks flow l l.bound) (map loop_of tasks)
 all_counted tasks flow drawn graph =
-    All-map (λ l. IsCounted (insn_at (the_image tasks)) (entries_of (the_image tasks) (the_system tasks)) flow l l.bound) loop_of tasks
+    All-map (λ l. IsCountedOf tasks flow l l.bound) loop_of tasks
     (λ k d below. counted tasks flow k (slice_index_or tasks k d) drawn graph (slice_get-get_or tasks k d below))
 
-pub loops_are_counted : (tasks : List DemoTask) (plant : PlantData) (l : Loop) → AreDrawn tasks → IsPlantOf (the_image tasks) (the_system tasks) (the_timing tasks) plant
-    → Contains plant.timing.loops l → IsCounted (insn_at plant.image) (entries_of plant.image plant.system) plant.flow l l.bound
+pub loops_are_counted : (tasks : List DemoTask) (plant : PlantData) (l : Loop) → AreDrawn tasks
+    → IsPlantOf (the_image tasks) (the_system tasks) (the_timing tasks) plant → Contains plant.timing.loops l
+    → IsCounted (insn_at plant.image) (entries_of plant.image plant.system) plant.flow l l.bound
 loops_are_counted tasks plant l drawn is has =
     let same = same_plant plant tasks is.image_is is.system_is is.timing_is in
     let belong = subst IsPlant same is.belong in
     let listed : Contains (map loop_of tasks) l = subst (λ (p : PlantData). Contains p.timing.loops l) same has in
     subst (λ p. IsCountedIn p l) (sym same)
-    (All-contains (λ l. IsCounted (insn_at (the_image tasks)) (entries_of (the_image tasks) (the_system tasks)) plant.flow l l.bound) (map loop_of tasks) l
+    (All-contains (λ other. IsCountedOf tasks plant.flow other other.bound) (map loop_of tasks) l
     (all_counted tasks plant.flow drawn belong.graph.graph) listed)
