@@ -14,8 +14,6 @@ use Rattle.osek_machine.specs.Declarations.{IsInTime, arrivals_of}
 use Rattle.osek_machine.specs.Events as events
 use Rattle.osek_machine.specs.Events.{Event, Arrive, Take, Execute, Serve, Idle}
 use Rattle.osek_machine.specs.State.{MachineState}
-use Rattle.replay.specs.declared.next.Next.{Next}
-use Rattle.replay.specs.declared.next.Next.TheVariants as next
 use Rattle.replay.specs.declared.schedule.Arrival.{Arrival}
 use Rattle.replay.specs.declared.schedule.Schedule.{Schedule}
 use Rattle.replay.specs.Playing.{IsNext, IsPlayed, arrivals_made, arriving, is_due, next_of, running, taking, undue, waiting}
@@ -23,52 +21,49 @@ use Rattle.demo_runs.specs.Schedule.{arrival_of, the_schedule}
 
 -- ---- What arrives next
 
--- only the listed arrival comes next
-abbrev IsListed : Option Arrival → Next → Type 0
-IsListed listed (next.Arrive arrival) = listed ≡ Some arrival
-IsListed listed next.Stop = Unit {0}
-IsListed listed (next.Take source) = Unit {0}
-IsListed listed next.Run = Unit {0}
-IsListed listed (next.Wait cycles) = Unit {0}
+no_wait : (image : ImageData) (system : System) (timing : Timing) (state : MachineState) (end : ℕ) (arrival : Option Arrival) (a : events.Arrival)
+    → IsNext image system timing state (waiting state end arrival) (Arrive a) → ⊥
+no_wait image system timing state end None a = λ is. is
+no_wait image system timing state end (Some arrival) a =
+    cond_both (nat_lt arrival.at end) _ _ (λ n. IsNext image system timing state n (Arrive a) → ⊥) (λ before is. is) (λ past is. is)
 
-waiting_listed : (state : MachineState) (end : ℕ) (listed arrival : Option Arrival) → IsListed listed (waiting state end arrival)
-waiting_listed state end listed None = tt
-waiting_listed state end listed (Some a) =
-    cond_both (nat_lt a.at end) (next.Wait (a.at - state.moment)) next.Stop (IsListed listed) (λ h. tt) (λ h. tt)
+no_run : (image : ImageData) (system : System) (timing : Timing) (state : MachineState) (end : ℕ) (arrival : Option Arrival) (a : events.Arrival)
+    → IsNext image system timing state (running system state end arrival) (Arrive a) → ⊥
+no_run image system timing state end arrival a =
+    cond_both (is_some (runs system state.kernel)) _ _ (λ n. IsNext image system timing state n (Arrive a) → ⊥)
+    (λ somebody is. is) (λ nobody. no_wait image system timing state end arrival a)
 
-running_listed : (system : System) (state : MachineState) (end : ℕ) (listed arrival : Option Arrival) → IsListed listed (running system state end arrival)
-running_listed system state end listed arrival =
-    cond_both (is_some (runs system state.kernel)) next.Run (waiting state end arrival) (IsListed listed) (λ h. tt) (λ h. waiting_listed state end listed arrival)
+no_take : (image : ImageData) (system : System) (timing : Timing) (state : MachineState) (end : ℕ) (arrival : Option Arrival) (source : Option ℕ) (a : events.Arrival)
+    → IsNext image system timing state (taking system state end arrival source) (Arrive a) → ⊥
+no_take image system timing state end arrival None a = no_run image system timing state end arrival a
+no_take image system timing state end arrival (Some source) a =
+    cond_both (interrupts_open state.kernel) _ _ (λ n. IsNext image system timing state n (Arrive a) → ⊥)
+    (λ are is. is) (λ arent. no_run image system timing state end arrival a)
 
-taking_listed : (system : System) (state : MachineState) (end : ℕ) (listed arrival : Option Arrival) (pending : Option ℕ)
-    → IsListed listed (taking system state end arrival pending)
-taking_listed system state end listed arrival None = running_listed system state end listed arrival
-taking_listed system state end listed arrival (Some source) =
-    cond_both (interrupts_open state.kernel) (next.Take source) (running system state end arrival) (IsListed listed)
-    (λ h. tt) (λ h. running_listed system state end listed arrival)
+-- where no arrival is due, none is made
+not_undue : (image : ImageData) (system : System) (timing : Timing) (state : MachineState) (end : ℕ) (arrival : Option Arrival) (a : events.Arrival)
+    → IsNext image system timing state (undue system state end arrival) (Arrive a) → ⊥
+not_undue image system timing state end arrival a = no_take image system timing state end arrival (position (λ pending. pending) state.pending) a
 
-undue_listed : (system : System) (state : MachineState) (end : ℕ) (listed arrival : Option Arrival) → IsListed listed (undue system state end arrival)
-undue_listed system state end listed arrival = taking_listed system state end listed arrival (position (λ pending. pending) state.pending)
+-- the source is that of the listed arrival
+record IsListed (system : System) (listed : Option Arrival) (source : ℕ) : Type 0 where
+  arrival : Arrival
+  there : listed ≡ Some arrival
+  source_is : source ≡ number_of system arrival.source
 
-arriving_listed : (system : System) (state : MachineState) (end : ℕ) (listed : Option Arrival) → IsListed listed (arriving system state end listed)
-arriving_listed system state end None = undue_listed system state end None None
-arriving_listed system state end (Some a) =
-    cond_both (is_due state a) (next.Arrive a) (undue system state end (Some a)) (IsListed (Some a)) (λ h. refl) (λ h. undue_listed system state end (Some a) (Some a))
+arrives_listed : (image : ImageData) (system : System) (timing : Timing) (state : MachineState) (end : ℕ) (listed : Option Arrival) (a : events.Arrival)
+    → IsNext image system timing state (arriving system state end listed) (Arrive a) → IsListed system listed a.source
+arrives_listed image system timing state end None a = λ is. absurd (not_undue image system timing state end None a is)
+arrives_listed image system timing state end (Some arrival) a =
+    cond_both (is_due state arrival) _ _ (λ n. IsNext image system timing state n (Arrive a) → IsListed system (Some arrival) a.source)
+    (λ due is. record { arrival = arrival; there = refl; source_is = is.0 })
+    (λ isnt is. absurd (not_undue image system timing state end (Some arrival) a is))
 
-next_listed : (system : System) (schedule : Schedule) (made : ℕ) (state : MachineState)
-    → IsListed (slice_get schedule.arrivals made) (next_of system schedule made state)
-next_listed system schedule made state =
-    cond_both (nat_le schedule.end state.moment) next.Stop (arriving system state schedule.end (slice_get schedule.arrivals made))
-    (IsListed (slice_get schedule.arrivals made)) (λ h. tt) (λ h. arriving_listed system state schedule.end (slice_get schedule.arrivals made))
-
--- the source that arrives is the one that is listed there
-source_next : (image : ImageData) (system : System) (timing : Timing) (before : MachineState) (listed : Option Arrival) (next : Next) (a : events.Arrival)
-    → IsListed listed next → IsNext image system timing before next (Arrive a) → (arrival : Arrival) × (listed ≡ Some arrival) × (a.source ≡ number_of system arrival.source)
-source_next image system timing before listed next.Stop a lists is = absurd is
-source_next image system timing before listed (next.Arrive arrival) a lists is = (arrival, lists, is.0)
-source_next image system timing before listed (next.Take source) a lists is = absurd is
-source_next image system timing before listed next.Run a lists is = absurd is
-source_next image system timing before listed (next.Wait cycles) a lists is = absurd is
+next_listed : (image : ImageData) (system : System) (timing : Timing) (schedule : Schedule) (made : ℕ) (state : MachineState) (a : events.Arrival)
+    → IsNext image system timing state (next_of system schedule made state) (Arrive a) → IsListed system (slice_get schedule.arrivals made) a.source
+next_listed image system timing schedule made state a =
+    cond_both (nat_le schedule.end state.moment) _ _ (λ n. IsNext image system timing state n (Arrive a) → IsListed system (slice_get schedule.arrivals made) a.source)
+    (λ stopped is. absurd is) (λ early. arrives_listed image system timing state schedule.end (slice_get schedule.arrivals made) a)
 
 -- ---- The schedule lists each alarm by its number
 
@@ -81,10 +76,10 @@ listed_at from (suc count) (suc place) arrival there = listed_at (from + 1) coun
 arrives_by_number : (image : ImageData) (system : System) (timing : Timing) (count made : ℕ) (before : MachineState) (a : events.Arrival)
     → IsNext image system timing before (next_of system (the_schedule count) made before) (Arrive a) → a.source ≡ made
 arrives_by_number image system timing count made before a is =
-    let found = source_next image system timing before (slice_get (the_schedule count).arrivals made) (next_of system (the_schedule count) made before) a
-    (next_listed system (the_schedule count) made before) is in
-    let number : number_of system found.0.source ≡ 0 + made = ap (λ (arrival : Arrival). number_of system arrival.source) (listed_at 0 count made found.0 found.1) in
-    omega (arith, found.2, number)
+    let found = next_listed image system timing (the_schedule count) made before a is in
+    let number : number_of system found.arrival.source ≡ 0 + made =
+    ap (λ (arrival : Arrival). number_of system arrival.source) (listed_at 0 count made found.arrival found.there) in
+    omega (arith, found.source_is, number)
 
 -- ---- Who has arrived
 
