@@ -253,7 +253,7 @@ covered_with tasks flow bs drawn belong =
       };
     }
 
-same_plant : (plant : PlantData) (tasks : List DemoTask) → plant.image ≡ the_image tasks → plant.system ≡ the_system tasks → plant.timing ≡ the_timing tasks
+pub same_plant : (plant : PlantData) (tasks : List DemoTask) → plant.image ≡ the_image tasks → plant.system ≡ the_system tasks → plant.timing ≡ the_timing tasks
     → plant ≡ plant_with tasks plant.flow plant.blocks
 same_plant plant tasks image system timing = rw (← image, ← system, ← timing) refl
 

@@ -78,7 +78,7 @@ later_entry from start (first ∷ tasks) zero task follow there =
 later_entry from start (first ∷ tasks) (suc k) task follow there =
     let later = later_entry (from + 1) (start + 4 * size_of first.steps) tasks k task follow.1 there in omega (arith, later)
 
-tasks_apart : (from start : ℕ) (tasks : List DemoTask) (i j : ℕ) (a b : DemoTask) → Follow from start tasks → slice_get tasks i ≡ Some a → slice_get tasks j ≡ Some b → i < j
+pub tasks_apart : (from start : ℕ) (tasks : List DemoTask) (i j : ℕ) (a b : DemoTask) → Follow from start tasks → slice_get tasks i ≡ Some a → slice_get tasks j ≡ Some b → i < j
     → a.entry + 4 * (a.steps + 6) ≤ b.entry
 tasks_apart from start [] i j a b follow there there' below = absurd cc
 tasks_apart from start (first ∷ tasks) i zero a b follow there there' below = absurd (omega arith)

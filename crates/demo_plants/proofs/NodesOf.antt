@@ -74,13 +74,13 @@ pub record IsInTask (tasks : List DemoTask) (node : Node) : Type 0 where
 
 -- ---- Addresses
 
-next_address : (task : DemoTask) (place : ℕ) → task.entry + 4 * (task.steps + 6) ≤ 0x1340 → place < task.steps + 6 → following (at task place) ≡ at task (place + 1)
+pub next_address : (task : DemoTask) (place : ℕ) → task.entry + 4 * (task.steps + 6) ≤ 0x1340 → place < task.steps + 6 → following (at task place) ≡ at task (place + 1)
 next_address task place high below = omega arith
 
-address_before : (task : DemoTask) (place : ℕ) → task.entry + 4 * (task.steps + 6) ≤ 0x1340 → place + 1 < task.steps + 6 → preceding (at task (place + 1)) ≡ at task place
+pub address_before : (task : DemoTask) (place : ℕ) → task.entry + 4 * (task.steps + 6) ≤ 0x1340 → place + 1 < task.steps + 6 → preceding (at task (place + 1)) ≡ at task place
 address_before task place high below = omega arith
 
-back_address : (task : DemoTask) (place : ℕ) → task.entry + 4 * (task.steps + 6) ≤ 0x1340 → place + 1 < task.steps + 6
+pub back_address : (task : DemoTask) (place : ℕ) → task.entry + 4 * (task.steps + 6) ≤ 0x1340 → place + 1 < task.steps + 6
     → moved (at task (place + 1)) (negsuc 3) ≡ at task place
 back_address task place high below = omega arith
 
@@ -99,14 +99,14 @@ pub record IsGood (program : Program) (tasks : List DemoTask) (node : Node) : Ty
   pub fault : fault_of program node ≡ None
   pub stays : (number : ℕ) (edge : Edge Node) (next : Node) → slice_get (edges_of program.code node) number ≡ Some edge → edge.to ≡ Some next → IsInTask tasks next
 
-only_edge : (edges : List (Edge Node)) (x edge : Edge Node) (number : ℕ) → edges ≡ x ∷ [] → slice_get edges number ≡ Some edge → x ≡ edge
+pub only_edge : (edges : List (Edge Node)) (x edge : Edge Node) (number : ℕ) → edges ≡ x ∷ [] → slice_get edges number ≡ Some edge → x ≡ edge
 only_edge edges x edge number are at = at_one number (subst (λ es. slice_get es number ≡ Some edge) are at)
   where
     at_one : (n : ℕ) → slice_get (x ∷ []) n ≡ Some edge → x ≡ edge
     at_one zero is = same_Some x edge is
     at_one (suc n) is = absurd cc
 
-either_edge : (edges : List (Edge Node)) (x y edge : Edge Node) (number : ℕ) → edges ≡ x ∷ y ∷ [] → slice_get edges number ≡ Some edge → (x ≡ edge) ⊎ (y ≡ edge)
+pub either_edge : (edges : List (Edge Node)) (x y edge : Edge Node) (number : ℕ) → edges ≡ x ∷ y ∷ [] → slice_get edges number ≡ Some edge → (x ≡ edge) ⊎ (y ≡ edge)
 either_edge edges x y edge number are at = at_two number (subst (λ es. slice_get es number ≡ Some edge) are at)
   where
     at_two : (n : ℕ) → slice_get (x ∷ y ∷ []) n ≡ Some edge → (x ≡ edge) ⊎ (y ≡ edge)
