@@ -4,5 +4,5 @@ use Rattle.demo_command.proofs.answering.push_line.Goals as goal
 
 pub returns : goal.returns
 returns c =
-    adds_line (AnswersTaskAt c.args.plant.now c.args.states.now c.args.responses.now c.args.task) c.args.text.old.items c.push_answered.new.text.items
+    adds_line (AnswersTaskAt c.args.plant.now c.args.states.now c.args.responses.now c.args.task) c.args.text.now.items c.push_answered.new.text.items
     c.line_of-answered.result c.push_answered.result c.line_of-answered.ensures c.push_answered.ensures
