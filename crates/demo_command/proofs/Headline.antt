@@ -1,5 +1,5 @@
 -- From the step of the command to what its text means.
-use Rattle.std.proofs.Common.{◌≡◌, ℕ, ◌+◌, ◌^◌, List, ◌++◌, length, Ok, ap, ◌∙◌, subst, arith}
+use Rattle.std.proofs.Common.{◌≡◌, ℕ, ◌+◌, List, ◌++◌, length, Ok, ap, ◌∙◌, subst, arith}
 use Rattle.elf_image.specs.Image.{ImageData}
 use Rattle.oil_model.specs.declared.system.System.{System}
 use Rattle.timing_file.specs.declared.timing.Timing.{Timing}

@@ -1,5 +1,5 @@
 -- The lines of `demo`: each bounds its task, and together they have a line for each task.
-use Rattle.std.proofs.Common.{◌≡◌, ℕ, ◌+◌, ◌<◌, List, [], length, Ok, ap, ◌∙◌, arith}
+use Rattle.std.proofs.Common.{◌≡◌, ℕ, ◌<◌, List, [], length, Ok, ap, ◌∙◌, arith}
 use Rattle.std.proofs.lemmas.List.{length-map}
 use Rattle.oil_model.specs.declared.system.System.{System}
 use Rattle.wcet_atomic_blocks.specs.Plants.{PlantData}

@@ -1,5 +1,5 @@
 -- The text of a generated timing is read again as its value.
-use Rattle.std.proofs.Common.{◌≡◌, ℕ, ◌^◌, ◌≤◌, ◌<◌, List, [], ◌∷◌, ◌++◌, map, true, Some, refl, arith}
+use Rattle.std.proofs.Common.{◌≡◌, ℕ, ◌^◌, ◌<◌, List, [], ◌∷◌, ◌++◌, map, true, Some, refl, arith}
 use Rattle.std.specs.Prelude.{IsUtf8, codes, nat_lt}
 use Rattle.std.specs.Str.{IsAscii}
 use Rattle.std.specs.Int.{w32, to_be_bytes}
@@ -15,7 +15,7 @@ use Rattle.serde_json.specs.Read.{of_members}
 use Rattle.serde_json.specs.Written.{members_outline}
 use Rattle.timing_file.specs.declared.timing.Loop.{Loop}
 use Rattle.certificate.specs.Writing.{number_data, list_data}
-use Rattle.bound_commands.proofs.ReadAgain.{ReadsBack, MembersBack, deeper, number_back, string_back, list_back, each_back, member_back, no_more_back, object_back}
+use Rattle.bound_commands.proofs.ReadAgain.{ReadsBack, deeper, number_back, string_back, list_back, each_back, member_back, no_more_back, object_back}
 use Rattle.demo_gen.specs.declared.task.DemoTask.{DemoTask}
 use Rattle.demo_gen.specs.Demo.{loop_of, counter_name}
 use Rattle.demo_gen.specs.Texts.{address_data, loop_data, single, timing_data}

@@ -29,10 +29,10 @@ pub(crate) fn certified(
     requires ready { IsReady plant.now states.now }
     requires optimum { IsOptimum (rows_of plant.now states.now task) optimum.now.multipliers
         optimum.now.denominator optimum.now.bound }
-    ensures cert { IfOk result (λ cert. cert ≡ optimum_cert task states.now
+    ensures { IfOk result (λ cert. cert ≡ optimum_cert task states.now
         optimum.now.multipliers optimum.now.denominator optimum.now.bound) }
-    ensures good { IfOk result (IsGood plant.now task) }
 {
+    plant.belongs_together();
     let cert = cert_of(alloc, states, task, optimum)?;
     judged(alloc, plant, task, cert)
 }

@@ -1,4 +1,4 @@
-use Rattle.std.proofs.Common.{◌≡◌, ◌<◌, ℕ, length, sym, subst, arith}
+use Rattle.std.proofs.Common.{◌≡◌, ◌<◌, length, sym, subst, arith}
 use Rattle.command_steps.specs.Steps.{Says}
 use Rattle.inputs.proofs.Halts.{err_is}
 use Rattle.bound_commands.proofs.TaskLines.{goes_on, stops, ends}

@@ -1,4 +1,4 @@
-use Rattle.std.proofs.Common.{◌≡◌, ◌∙◌, sym}
+use Rattle.std.proofs.Common.{◌∙◌, sym}
 use Rattle.demo_command.proofs.Seeing.{seen_more}
 use Rattle.demo_command.proofs.seeing.seen_of.Goals as goal
 
