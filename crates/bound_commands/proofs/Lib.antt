@@ -1,6 +1,7 @@
 pub mod Solved
 pub mod TaskLines
 pub mod Lasting
+pub mod ReadAgain
 pub mod CertTexts
 pub mod OptimumCerts
 pub mod Saying

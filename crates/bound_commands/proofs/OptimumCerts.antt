@@ -1,7 +1,8 @@
--- Certificates that are written: they are lawful, and their member `bound` is the text of their bound.
-use Rattle.std.proofs.Common.{◌≡◌, ℕ, ◌^◌, ◌<◌, Bool, true, false, cond, List, map, ℤ, pos, negsuc, ◌<ℤ◌, unsigned_abs, Some, Result, Ok, Err, inl, inr, refl, ap, ◌∙◌, subst, arith, eqb}
+-- Certificates of optima: they are lawful and good, and where they are written their member `bound` is the text of their bound.
+use Rattle.std.proofs.Common.{◌≡◌, ℕ, ◌+◌, ◌*◌, ◌^◌, ◌<◌, Bool, true, false, cond, List, map, ℤ, pos, negsuc, ◌+ℤ◌, ◌*ℤ◌, ◌≤ℤ◌, ◌<ℤ◌, unsigned_abs, Some, Result, Ok, Err, inl, inr, refl, ap, ◌∙◌, subst, arith, eqb}
 use Rattle.std.proofs.lemmas.Int.{ints}
 use Rattle.std.specs.Prelude.{IfOk, IsUtf8, bytes_eq, codes, ok_or, option_and_then}
+use Rattle.std.proofs.lemmas.List.{length-map}
 use Rattle.std.proofs.lemmas.List.Elements.{recursion_from_All, All-map, All-weaker}
 use Rattle.std.proofs.lemmas.Option.{same_Some}
 use Rattle.serde_json.specs.Data.{Data}
@@ -12,11 +13,14 @@ use Rattle.json_fields.specs.Files.{IsGiven}
 use Rattle.json_fields.specs.Numbers.{digits_below}
 use Rattle.json_fields.specs.Objects.{text_at, list_at, has_exactly}
 use Rattle.json_fields.proofs.Laws.{IfOk-ok_or, IfOk-test, bind_some, passed}
-use Rattle.whole_rows.specs.Rows.{RowsData}
+use Rattle.whole_rows.specs.Rows.{RowsData, right_sum}
 use Rattle.whole_simplex.specs.Answers.{IsSmall, IsOptimum}
+use Rattle.wcet_atomic_blocks.specs.Plants.{PlantData}
 use Rattle.abstract_sched.specs.declared.rules.StateRules.{StateRules}
 use Rattle.abstract_sched.specs.declared.states.AbsState.{AbsState}
 use Rattle.abstract_sched.specs.Fits.{AreLawful}
+use Rattle.scheduler_moves.specs.Closed.{IsClosed}
+use Rattle.row_build.specs.Rows.{rows_of}
 use Rattle.certificate.specs.declared.cert.Cert.{Cert}
 use Rattle.certificate.specs.declared.fault.CertKind.TheVariants as cert_kinds
 use Rattle.certificate.specs.Certificate.{multiplier_in, cert_numbers, cert_in}
@@ -25,8 +29,10 @@ use Rattle.certificate.specs.Lawful.{IsLawful}
 use Rattle.certificate.specs.States.{states_of}
 use Rattle.certificate.specs.Writing.{cert_text}
 use Rattle.bound_commands.proofs.CertTexts.{cert_again}
+use Rattle.bound_checker.specs.Good.{IsGood}
 use Rattle.bound_solver.specs.Bounds.{IsWithinLimits}
 use Rattle.bound_commands.specs.Bounded.{HasBound}
+use Rattle.bound_commands.specs.Solving.{optimum_cert}
 
 -- ---- the bound of a certificate that is read
 
@@ -101,15 +107,6 @@ above_nothing : (n : ℤ) → pos 0 <ℤ n → 0 < unsigned_abs n
 above_nothing (pos n) above = omega (arith, ints)
 above_nothing (negsuc n) above = absurd (omega (arith, ints))
 
-abbrev pub optimum_cert : ℕ → List AbsState → List ℤ → ℤ → ℤ → Cert
-optimum_cert task states multipliers denominator bound = record {
-  task = task;
-  bound = unsigned_abs bound;
-  denominator = unsigned_abs denominator;
-  states = states;
-  multipliers = map unsigned_abs multipliers;
-}
-
 pub optimum_lawful : (rules : StateRules) (task : ℕ) (states : List AbsState) (d : RowsData) (multipliers : List ℤ) (denominator bound : ℤ)
     → AreLawful rules states → IsOptimum d multipliers denominator bound → IsWithinLimits bound
     → IsLawful rules task (optimum_cert task states multipliers denominator bound)
@@ -121,4 +118,24 @@ optimum_lawful rules task states d multipliers denominator bound lawful optimum 
       (All-map (λ m. m < 2 ^ 80) unsigned_abs multipliers
       (All-weaker IsSmall (λ m. unsigned_abs m < 2 ^ 80) small_size multipliers optimum.multipliers_small));
   states = lawful;
+}
+
+-- what stays below the next multiple of a denominator above 0 does so in natural numbers too
+stays_below : (sum denominator bound : ℤ) → pos 0 <ℤ denominator → pos 0 ≤ℤ bound → sum <ℤ (denominator *ℤ (bound +ℤ pos 1))
+    → sum <ℤ pos (unsigned_abs denominator * (unsigned_abs bound + 1))
+stays_below sum (pos d) (pos b) above not_negative below = below
+stays_below sum (pos d) (negsuc b) above not_negative below = absurd (omega (arith, ints, not_negative))
+stays_below sum (negsuc d) bound above not_negative below = absurd (omega (arith, ints, above))
+
+pub optimum_good : (plant : PlantData) (states : List AbsState) (task : ℕ) (multipliers : List ℤ) (denominator bound : ℤ) → IsClosed plant states
+    → IsOptimum (rows_of plant states task) multipliers denominator bound → pos 0 ≤ℤ bound
+    → IsGood plant task (optimum_cert task states multipliers denominator bound)
+optimum_good plant states task multipliers denominator bound closed optimum not_negative = record {
+  closed = closed;
+  good = record {
+    counted = length-map multipliers unsigned_abs ∙ optimum.counted;
+    covers = optimum.covers;
+    below = stays_below (right_sum (rows_of plant states task) (map unsigned_abs multipliers)) denominator bound optimum.denominator_above not_negative
+        optimum.below;
+  };
 }

@@ -13,21 +13,27 @@ use Rattle.bound_solver.specs.Bounds.{IsWithinLimits}
 use Rattle.bound_solver.proofs.TaskBounds.{bound_within}
 use Rattle.reports.specs.Solved.{bound_text}
 use Rattle.bound_commands.specs.Bounded.{HasBound}
-use Rattle.bound_commands.specs.Solving.{bound_saying, cert_saying}
+use Rattle.bound_commands.specs.Solving.{telling, bound_saying, optimum_cert, cert_saying}
 use Rattle.inputs.proofs.Analysing.{AreClosed}
-use Rattle.bound_commands.proofs.OptimumCerts.{optimum_cert, optimum_lawful, has_bound}
+use Rattle.bound_commands.proofs.OptimumCerts.{optimum_lawful, has_bound}
 use Rattle.bound_commands.proofs.Lasting.{SaysOptimum, optimum_bounds}
 
--- as `TASK N`
-pub said_bounds : (plant : PlantData) (states : List AbsState) (task : ℕ) (name text : List ℕ) → AreFor plant states task
-    → SaysOptimum (bound_saying name) (rows_of plant states task) text
-    → (bound : ℕ) × (text ≡ bound_text name bound) × BoundsActivations plant task bound
-said_bounds plant states task name text are says =
+-- where only the bound is told
+pub told_bounds : (plant : PlantData) (states : List AbsState) (task : ℕ) (tell : ℕ → List ℕ) (text : List ℕ) → AreFor plant states task
+    → SaysOptimum (telling tell) (rows_of plant states task) text
+    → (bound : ℕ) × (text ≡ tell bound) × BoundsActivations plant task bound
+told_bounds plant states task tell text are says =
     let within = bound_within rows_are_small plant states task says.multipliers says.denominator says.bound are.belongs are.once says.optimum in (
       unsigned_abs says.bound,
       says.told,
       optimum_bounds plant states task says.multipliers says.denominator says.bound are says.optimum within.0,
     )
+
+-- as `TASK N`
+pub said_bounds : (plant : PlantData) (states : List AbsState) (task : ℕ) (name text : List ℕ) → AreFor plant states task
+    → SaysOptimum (bound_saying name) (rows_of plant states task) text
+    → (bound : ℕ) × (text ≡ bound_text name bound) × BoundsActivations plant task bound
+said_bounds plant states task name text are says = told_bounds plant states task (bound_text name) text are says
 
 -- as a certificate
 pub said_certified : (plant : PlantData) (states : List AbsState) (task : ℕ) (name text : List ℕ) → IsUtf8 name → AreClosed plant states

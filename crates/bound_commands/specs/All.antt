@@ -18,15 +18,20 @@ abbrev pub AnswersTaskAt : PlantData → List AbsState → ℕ → Result (List 
 AnswersTaskAt plant states task given =
     AnswersTask (bound_saying (task_name plant.system task)) usual_pivots (record { plant = plant; task = task }) states given
 
--- The lines of so many tasks from this one on, behind the text so far; or up to the refusal of the first one that has no bound.
-abbrev pub AnswersFrom : PlantData → List AbsState → ℕ → ℕ → List ℕ → Result (List ℕ) Refusal → Type 0
-AnswersFrom plant states zero task text given = given ≡ Ok text
-AnswersFrom plant states (suc count) task text given =
-    ((line : List ℕ) × AnswersTaskAt plant states task (Ok line) × AnswersFrom plant states count (suc task) (text ++ line) given)
-    ⊎ ((refused : Refusal) × AnswersTaskAt plant states task (Err refused) × (given ≡ Err (refusal refused.reason (text ++ refused.text))))
+-- what is answered of the task of each number
+abbrev pub Answering : Type 1
+Answering = ℕ → Result (List ℕ) Refusal → Type 0
+
+-- The lines of so many tasks from this one on, behind the text so far, and then the ending; or up to the refusal of the first task that
+-- has no bound.
+abbrev pub AnswersFrom : Answering → List ℕ → ℕ → ℕ → List ℕ → Result (List ℕ) Refusal → Type 0
+AnswersFrom Answers ending zero task text given = given ≡ Ok (text ++ ending)
+AnswersFrom Answers ending (suc count) task text given =
+    ((line : List ℕ) × Answers task (Ok line) × AnswersFrom Answers ending count (suc task) (text ++ line) given)
+    ⊎ ((refused : Refusal) × Answers task (Err refused) × (given ≡ Err (refusal refused.reason (text ++ refused.text))))
 
 abbrev pub AnswersAll : PlantData → List AbsState → Result (List ℕ) Refusal → Type 0
-AnswersAll plant states given = AnswersFrom plant states (length plant.system.tasks) 0 [] given
+AnswersAll plant states given = AnswersFrom (AnswersTaskAt plant states) [] (length plant.system.tasks) 0 [] given
 
 abbrev pub AllOn : {F : Type 0} → Calls F → List ℕ → PlantData → Step F (List ℕ)
 AllOn calls states plant = Then (ClosedStates calls states plant) (λ listed. Judged (AnswersAll plant listed))

@@ -9,10 +9,14 @@ use Rattle.reports.specs.Solved.{bound_text}
 use Rattle.inputs.specs.Meaning.{LastsAtMost, AreDeclared}
 use Rattle.bound_commands.specs.All.{task_name}
 
--- `TASK N` for these tasks, from this one on
+-- what is told of each task and its bound, for these bounds of the tasks from this one on
+abbrev pub lines_of : (ℕ → ℕ → List ℕ) → ℕ → List ℕ → List ℕ
+lines_of tell task [] = []
+lines_of tell task (bound ∷ bounds) = tell task bound ++ lines_of tell (suc task) bounds
+
+-- `TASK N` for them
 abbrev pub lines_from : System → ℕ → List ℕ → List ℕ
-lines_from system task [] = []
-lines_from system task (bound ∷ bounds) = bound_text (task_name system task) bound ++ lines_from system (suc task) bounds
+lines_from system = lines_of (λ task bound. bound_text (task_name system task) bound)
 
 -- The text has a line for each task of the system, and no activation of it lasts longer.
 pub record BoundsAll (text oil elf timing : List ℕ) : Type 0 where

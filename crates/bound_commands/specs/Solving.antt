@@ -8,6 +8,7 @@ use Rattle.whole_simplex.specs.declared.SolveFault.{SolveFault}
 use Rattle.whole_simplex.specs.declared.SolveFault.TheVariants.{Unbounded, Pivots, Entries, Wide, Multiplier, Memory}
 use Rattle.abstract_sched.specs.declared.states.AbsState.{AbsState}
 use Rattle.row_build.specs.Rows.{rows_of}
+use Rattle.certificate.specs.declared.cert.Cert.{Cert}
 use Rattle.certificate.specs.Writing.{cert_text}
 use Rattle.bound_solver.specs.Bounds.{solved_rows, bound_outcome}
 use Rattle.command_steps.specs.declared.halt.Refusal.{Refusal}
@@ -27,12 +28,25 @@ usual_pivots = 100000
 abbrev pub Saying : Type 0
 Saying = List ℕ → ℕ → ℕ → List ℕ
 
+-- of its bound alone
+abbrev pub telling : (ℕ → List ℕ) → Saying
+telling tell multipliers denominator bound = tell bound
+
 abbrev pub bound_saying : List ℕ → Saying
-bound_saying name multipliers denominator bound = bound_text name bound
+bound_saying name = telling (bound_text name)
+
+-- the certificate with these numbers, over these states
+abbrev pub cert_with : ℕ → List AbsState → List ℕ → ℕ → ℕ → Cert
+cert_with task states multipliers denominator bound =
+    record { task = task; bound = bound; denominator = denominator; states = states; multipliers = multipliers }
+
+-- that of an optimum
+abbrev pub optimum_cert : ℕ → List AbsState → List ℤ → ℤ → ℤ → Cert
+optimum_cert task states multipliers denominator bound =
+    cert_with task states (map unsigned_abs multipliers) (unsigned_abs denominator) (unsigned_abs bound)
 
 abbrev pub cert_saying : List ℕ → ℕ → List AbsState → Saying
-cert_saying name task states multipliers denominator bound =
-    cert_text name (record { task = task; bound = bound; denominator = denominator; states = states; multipliers = multipliers })
+cert_saying name task states multipliers denominator bound = cert_text name (cert_with task states multipliers denominator bound)
 
 -- ---- what is said of an outcome
 

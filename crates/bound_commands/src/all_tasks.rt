@@ -1,19 +1,18 @@
 //! `all OIL ELF TIMING STATES` finds the bound of each task of a system, up to the first task that
 //! has none.
-ghost use Rattle.std.specs.Prelude.{◌≡◌, ◌++◌, true, IfOk, OnOk};
+ghost use Rattle.std.specs.Prelude.{◌≡◌, true};
 ghost use Rattle.listed.specs.Lists.{differ};
 ghost use Rattle.abstract_sched.specs.States.{same_state};
 ghost use Rattle.scheduler_moves.specs.Closed.{IsClosed};
-ghost use Rattle.command_steps.specs.Refusals.{refusal};
 ghost use Rattle.command_steps.specs.Steps.{IsCall, Says};
 ghost use Rattle.bound_commands.specs.All as words;
 ghost use Rattle.bound_commands.specs.Found.{AddsLine};
 
+use crate::putting::push_answered;
 use crate::solving::{USUAL_PIVOTS, bound_line};
 use abstract_sched::AbsState;
-use command_steps::{Halt, Refusal};
+use command_steps::Halt;
 use inputs::{closed_states, plant_of};
-use listed::Memory;
 use oil_model::System;
 use std::alloc::Global;
 use wcet_atomic_blocks::Plant;
@@ -61,7 +60,7 @@ fn answer(alloc: Global, plant: &Plant, states: &[AbsState]) -> Result<Bytes, Ha
     Ok(Bytes::from_vec(text))
 }
 
-/// Adds the line of a task. A refusal gets the text so far before its own.
+/// Adds the line of a task, or gives the refusal with the text so far before its own.
 fn push_line(
     alloc: Global,
     text: &mut Vec<u8>,
@@ -71,23 +70,11 @@ fn push_line(
 ) -> Result<(), Halt>
     requires closed { IsClosed plant.now states.now }
     requires once { differ same_state states.now ≡ true }
-    ensures { Says (AddsLine plant.now states.now task text.old.items text.new.items) result }
+    ensures { Says (AddsLine (words.AnswersTaskAt plant.now states.now task)
+        text.old.items text.new.items) result }
 {
-    match line_of(alloc, plant, states, task) {
-        Ok(line) => {
-            put(text, &line)?;
-            Ok(())
-        }
-        Err(Halt::Refused(refusal)) => Err(Halt::Refused(behind(alloc, text, &refusal)?)),
-        Err(_) => Err(Halt::Memory),
-    }
-}
-
-fn put(text: &mut Vec<u8>, line: &Bytes) -> Result<(), Memory>
-    ensures { OnOk result (text.new.items ≡ text.old.items ++ line.now) }
-{
-    text.extend_from_slice(line.as_slice())?;
-    Ok(())
+    let answered = line_of(alloc, plant, states, task);
+    push_answered(alloc, text, answered)
 }
 
 /// The line of a task, or why it has none.
@@ -100,20 +87,8 @@ fn line_of(alloc: Global, plant: &Plant, states: &[AbsState], task: usize) -> Re
     bound_line(alloc, plant, task, name, USUAL_PIVOTS, states)
 }
 
-/// The refusal with the text before its own.
-fn behind(alloc: Global, text: &[u8], refused: &Refusal) -> Result<Refusal, Memory>
-    ensures { IfOk result (λ made. made
-        ≡ refusal refused.now.reason (text.now ++ refused.now.text)) }
-{
-    let mut whole = Vec::from_slice(alloc, text)?;
-    whole.extend_from_slice(refused.text.as_slice())?;
-    Ok(Refusal {
-        reason: refused.reason,
-        text: Bytes::from_vec(whole),
-    })
-}
-
-fn task_name(system: &System, task: usize) -> &[u8]
+/// The name of a task, or none where there is no such task.
+pub fn task_name(system: &System, task: usize) -> &[u8]
     ensures { result.now ≡ words.task_name system.now task }
 {
     match system.tasks.as_slice().get(task) {

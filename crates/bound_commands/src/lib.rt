@@ -9,9 +9,11 @@
 mod all_tasks;
 mod judging;
 mod laws;
+mod putting;
 mod solving;
 
-pub use all_tasks::all_bounds;
+pub use all_tasks::{all_bounds, task_name};
 pub use judging::checked;
 pub use laws::lines_bound_tasks;
-pub use solving::{USUAL_PIVOTS, bound_line, bounded, certified};
+pub use putting::push_answered;
+pub use solving::{USUAL_PIVOTS, bound_line, bounded, certified, fault_refusal, optimum_cert};

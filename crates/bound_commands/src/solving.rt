@@ -98,7 +98,7 @@ fn bound_found(
 }
 
 /// Why there is no optimum.
-fn fault_refusal(alloc: Global, fault: SolveFault) -> Result<Bytes, Halt>
+pub fn fault_refusal(alloc: Global, fault: SolveFault) -> Result<Bytes, Halt>
     ensures { Says (λ given. option_map Err (words.fault_refusal fault) ≡ Some given) result }
 {
     match fault {
@@ -198,15 +198,28 @@ fn certificate_text(
         (map unsigned_abs optimum.now.multipliers) (unsigned_abs optimum.now.denominator)
         (unsigned_abs optimum.now.bound)) }
 {
+    let cert = optimum_cert(alloc, task, states, optimum)?;
+    write_cert(alloc, name, &cert)
+}
+
+/// The certificate of an optimum of the rows of the task over these states.
+pub fn optimum_cert(
+    alloc: Global,
+    task: usize,
+    states: States,
+    optimum: &Optimum,
+) -> Result<Cert, Memory>
+    ensures { IfOk result (λ cert. cert ≡ words.optimum_cert task states
+        optimum.now.multipliers optimum.now.denominator optimum.now.bound) }
+{
     let multipliers = magnitudes(alloc, &optimum.multipliers)?;
-    let cert = Cert {
+    Ok(Cert {
         task,
         bound: optimum.bound.unsigned_abs(),
         denominator: optimum.denominator.unsigned_abs(),
         states,
         multipliers,
-    };
-    write_cert(alloc, name, &cert)
+    })
 }
 
 fn magnitudes(alloc: Global, row: &Row) -> Result<Numbers, Memory>

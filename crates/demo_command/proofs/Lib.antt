@@ -1,0 +1,9 @@
+pub mod Seeing
+pub mod States
+pub mod TimingAgain
+pub mod Declared
+pub mod TaskBounds
+pub mod Judged
+pub mod Answering
+pub mod Honest
+pub mod Headline

@@ -3,3 +3,4 @@ pub mod Texts
 pub mod Demo
 pub mod Meaning
 pub mod Lines
+pub mod Working

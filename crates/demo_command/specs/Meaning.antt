@@ -1,20 +1,17 @@
 -- What the answer of `demo` means.
-use Rattle.std.specs.Prelude.{◌≡◌, ℕ, ◌^◌, suc, List, [], ◌∷◌, ◌++◌, length, slice_get, Some}
+use Rattle.std.specs.Prelude.{◌≡◌, ℕ, ◌^◌, List, ◌++◌, length, slice_get, Some}
 use Rattle.oil_model.specs.declared.system.System.{System}
 use Rattle.replay.specs.declared.response.Response.{Response}
 use Rattle.replay.specs.Play.{PlaysWhole}
 use Rattle.inputs.specs.Meaning.{LastsAtMost, AreDeclared}
-use Rattle.bound_commands.specs.All.{task_name}
+use Rattle.bound_commands.specs.Bounded.{lines_of}
 use Rattle.demo_gen.specs.Texts.{the_demo}
 use Rattle.demo_runs.specs.Schedule.{the_schedule}
-use Rattle.demo_command.specs.Seen.{seen_of}
-use Rattle.demo_command.specs.Texts.{task_line, states_line}
+use Rattle.demo_command.specs.Texts.{line_of, states_line}
 
 -- `NAME bound N seen M` for these tasks, from this one on
 abbrev pub lines_from : System → List Response → ℕ → List ℕ → List ℕ
-lines_from system responses task [] = []
-lines_from system responses task (bound ∷ bounds) =
-    task_line (task_name system task) bound (seen_of task responses) ++ lines_from system responses (suc task) bounds
+lines_from system responses = lines_of (line_of system responses)
 
 -- The texts of the seed's system with so many tasks are a system, its image and its timing. The text has a line for each task, and no
 -- activation of it lasts longer than its bound; beside that stands what was seen in the run in which every alarm arrives at the first

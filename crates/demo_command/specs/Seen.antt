@@ -1,5 +1,5 @@
 -- The greatest response that a run shows of a task.
-use Rattle.std.specs.Prelude.{◌≡◌, ℕ, nat_max, Bool, true, false, ◌&&◌, ◌==◌, List, [], ◌∷◌, map, filter, refl}
+use Rattle.std.specs.Prelude.{◌≡◌, ℕ, max, Bool, true, false, ◌&&◌, ◌==◌, List, [], ◌∷◌, map, filter, refl}
 use Rattle.replay.specs.declared.response.Response.{Response}
 
 -- an activation of the task that ended
@@ -9,7 +9,7 @@ is_ended_of task response = response.ended && (response.task == task)
 -- the greatest of some numbers, 0 where there is none
 abbrev pub greatest : List ℕ → ℕ
 greatest [] = 0
-greatest (n ∷ others) = nat_max n (greatest others)
+greatest (n ∷ others) = max n (greatest others)
 
 -- the greatest cycles of the task's activations that ended, 0 where none did
 abbrev pub seen_of : ℕ → List Response → ℕ

@@ -4,3 +4,12 @@
 //!
 //!     let answered = demonstrated(alloc, 1, 1);   // "P0 bound 66 seen 56\nstates 2\n"
 #![tactic(auto)]
+
+mod answering;
+mod judging;
+mod laws;
+mod seeing;
+mod task_lines;
+
+pub use answering::demonstrated;
+pub use laws::demo_lines_bound_tasks;

@@ -1,10 +1,8 @@
-use Rattle.std.proofs.Common.{◌≡◌, ℕ, List, ◌++◌, subst}
-use Rattle.command_steps.specs.Refusals.{refusal}
+use Rattle.bound_commands.specs.All.{AnswersTaskAt}
+use Rattle.bound_commands.proofs.TaskLines.{adds_line}
 use Rattle.bound_commands.proofs.all_tasks.push_line.Goals as goal
 
-pub returns-in-Err-Refused : goal.returns-in-Err-Refused
-returns-in-Err-Refused c =
-    let refused = c.in-Err-Refused.refusal in
-    let behind = c.in_ok-behind-in-Err-Refused in
-    let told = subst (λ (text : List ℕ). behind.field-0 ≡ refusal refused.reason (text ++ refused.text)) c.deref.ensures.value behind.ensures in
-    (refused, rw c.in-Err-Refused.field-0-is at c.in-Err-Refused.ensures, told)
+pub returns : goal.returns
+returns c =
+    adds_line (AnswersTaskAt c.args.plant.now c.args.states.now c.args.task) c.args.text.now.items c.push_answered.new.text.items c.line_of-answered.result
+    c.push_answered.result c.line_of-answered.ensures c.push_answered.ensures
