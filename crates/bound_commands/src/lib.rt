@@ -14,4 +14,4 @@ mod solving;
 pub use all_tasks::all_bounds;
 pub use judging::checked;
 pub use laws::lines_bound_tasks;
-pub use solving::{USUAL_PIVOTS, bound_line, bounded, certified};
+pub use solving::{USUAL_PIVOTS, bound_line, bounded, certified, fault_refusal};

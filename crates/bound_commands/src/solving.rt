@@ -98,7 +98,7 @@ fn bound_found(
 }
 
 /// Why there is no optimum.
-fn fault_refusal(alloc: Global, fault: SolveFault) -> Result<Bytes, Halt>
+pub fn fault_refusal(alloc: Global, fault: SolveFault) -> Result<Bytes, Halt>
     ensures { Says (λ given. option_map Err (words.fault_refusal fault) ≡ Some given) result }
 {
     match fault {

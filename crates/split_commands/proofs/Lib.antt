@@ -1,2 +1,4 @@
+mod Bounds
+mod Found
 pub mod Headline
 pub mod Honest
