@@ -73,8 +73,8 @@ class Rows:
         return [column for column in self.costs if column in found]
 
     def over_whole_numbers(self):
-        names = self.takes()
-        return self.text.replace("\nEnd", "".join(f"\n {name}" for name in ["General", *names]).replace("\n General", "\nGeneral") + "\nEnd")
+        names = "".join(f" {name}\n" for name in self.takes())
+        return self.text.replace("\nEnd", f"\nGeneral\n{names}End")
 
 
 # ---- Solvers

@@ -1,4 +1,4 @@
 mod Bounds
-mod Found
+mod Searched
 pub mod Headline
 pub mod Honest

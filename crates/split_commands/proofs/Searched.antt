@@ -1,13 +1,15 @@
 -- From what a search found to the answer of the command.
-use Rattle.std.proofs.Common.{◌≡◌, ℕ, List, Option, Some, None, Result, Ok, Err, refl, ap, sym, subst}
+use Rattle.std.proofs.Common.{◌≡◌, ℕ, ◌^◌, ◌<◌, List, Option, Some, None, Result, Ok, Err, refl, ap, sym, subst}
 use Rattle.std.specs.Prelude.{IfOk, IfErr, option_map}
 use Rattle.whole_rows.specs.Rows.{RowsData}
 use Rattle.whole_simplex.specs.Outcome.{Outcome, SaysOutcome}
 use Rattle.whole_simplex.specs.declared.SolveFault.{SolveFault}
 use Rattle.whole_simplex.specs.declared.SolveFault.TheVariants as solving
 use Rattle.abstract_sched.specs.declared.states.AbsState.{AbsState}
+use Rattle.abstract_sched.specs.Fits.{AreLawful}
 use Rattle.scheduler_moves.specs.Moves.{rules_of}
 use Rattle.row_build.specs.Rows.{rows_of}
+use Rattle.split_trees.specs.Lawful.{IsLawfulTree}
 use Rattle.split_trees.specs.Tree.{Tree}
 use Rattle.cut_search.specs.Answers.{IsRayOf, SaysSearch}
 use Rattle.cut_search.specs.Search.{Ending, NoTree, Cuts, Refused, pivot_limit}
@@ -34,6 +36,22 @@ pub record IsSound (analysed : Analysed) (states : List AbsState) (bound : ℕ) 
   pub is_for : IsFor analysed.task bound states cert
   pub good : IsGoodSplit analysed.plant analysed.task cert
   pub lawful : IsLawful (rules_of analysed.plant) analysed.task cert
+
+pub is_sound : (analysed : Analysed) (states : List AbsState) (bound : ℕ) (found : Result SplitCert SplitFault) → bound < 2 ^ 120
+    → AreLawful (rules_of analysed.plant) states → IfOk found (IsFor analysed.task bound states)
+    → IfOk found (IsGoodSplit analysed.plant analysed.task) → IfOk found (λ cert. IsLawfulTree cert.tree)
+    → IfOk found (IsSound analysed states bound)
+is_sound analysed states bound (Ok cert) low lawful is_for good tree = record {
+  is_for = is_for;
+  good = good;
+  lawful = record {
+    for_task = is_for.task_is;
+    bound = subst (λ (n : ℕ). n < 2 ^ 120) (sym is_for.bound_is) low;
+    states = subst (λ (s : List AbsState). AreLawful (rules_of analysed.plant) s) (sym is_for.states_are) lawful;
+    tree = tree;
+  };
+}
+is_sound analysed states bound (Err fault) low lawful is_for good tree = tt
 
 same_cert : (task bound : ℕ) (states : List AbsState) (tree : Tree) (cert : SplitCert) → IsFor task bound states cert → cert.tree ≡ tree
     → cert ≡ cert_of task bound states tree
