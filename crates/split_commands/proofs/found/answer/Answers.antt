@@ -10,8 +10,8 @@ returns c =
     let bound = c.args.wanted.bound in
     let cuts = c.args.wanted.cuts in
     let found = c.find_split-found.result in
-    let fits : Fits w64 bound = search rules in
-    let low : bound < 2 ^ 120 = omega (arith, fits) in
+    let in_range : Fits w64 bound = search rules in
+    let low : bound < 2 ^ 120 = omega (arith, in_range.fits) in
     found_said c.args.name.now analysed states bound cuts (search_of analysed.plant states analysed.task bound cuts) found c.found_text.result
     c.find_split-found.ensures.outcome
     (is_sound analysed states bound found low c.requires.lawful c.find_split-found.ensures.parts c.find_split-found.ensures.good
