@@ -1,2 +1,4 @@
+mod Bounds
+mod Searched
 pub mod Headline
 pub mod Honest

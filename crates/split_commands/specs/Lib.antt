@@ -2,3 +2,4 @@ pub mod Texts
 pub mod SplitFiles
 pub mod Check
 pub mod Find
+pub mod Working

@@ -1,4 +1,4 @@
-//! What is said of split certificates that aren't good.
+//! What is said of split certificates that aren't good, and where none is found.
 ghost use Rattle.std.specs.Prelude.{◌≡◌, IfOk, string_bytes};
 ghost use Rattle.split_commands.specs.Texts as words;
 
@@ -46,4 +46,20 @@ fn leaf_text(alloc: Global, leaf: usize, why: Why) -> Result<String, AllocError>
         Why::Bound => format!(in alloc; "no leaf {leaf} bound\n"),
         _ => format!(in alloc; "no leaf {leaf}\n"),
     }
+}
+
+/// No tree of cuts shows the bound.
+pub(crate) fn no_tree_refusal(alloc: Global) -> Result<Refusal, Memory>
+    ensures { IfOk result (λ made. made ≡ words.no_tree_refusal) }
+{
+    let text = String::from_str(alloc, "no tree\n")?;
+    Ok(Refusal::new(Reason::No, text))
+}
+
+/// So many cuts are too few.
+pub(crate) fn cuts_refusal(alloc: Global, cuts: u32) -> Result<Refusal, Memory>
+    ensures { IfOk result (λ made. made ≡ words.cuts_refusal cuts) }
+{
+    let text = format!(in alloc; "budget cuts {cuts}\n")?;
+    Ok(Refusal::new(Reason::Budget, text))
 }
