@@ -1,13 +1,12 @@
 -- The instructions of a generated system: additions, branches and services. None of them returns, and none stores.
-use Rattle.std.proofs.Common.{◌≡◌, ℕ, zero, suc, ◌+◌, ◌<◌, List, [], ◌∷◌, ◌++◌, length, replicate, get_or, Bool, false, Option, Some, None, pos, refl, sym, ap, ◌∙◌, subst, arith}
-use Rattle.std.specs.Prelude.{slice_get, option_map, IfSome}
+use Rattle.std.proofs.Common.{◌≡◌, ℕ, zero, suc, ◌+◌, ◌<◌, List, [], replicate, get_or, Bool, false, Option, Some, pos, sym, ap, ◌∙◌, subst, arith}
+use Rattle.std.specs.Prelude.{option_map, IfSome}
 use Rattle.std.specs.List.{AllByRecursion}
 use Rattle.std.proofs.lemmas.Option.{none-some, same_Some, slice_get-get_or}
 use Rattle.elf_image.specs.Image.{ImageData, meets_code}
 use Rattle.rv32_decode.specs.declared.instruction.Insn.{Insn}
 use Rattle.rv32_decode.specs.declared.instruction.Insn.TheVariants.{Lui, Auipc, Jal, Jalr, Branch, Load, Save, Imm, Reg, Fence, Ecall, Ebreak}
 use Rattle.rv32_machine.specs.declared.next.Span.{Span}
-use Rattle.rv32_machine.specs.Code.{insn_at}
 use Rattle.rv32_machine.specs.ContextStep.{IsPaired}
 use Rattle.rv32_machine.specs.Execution.{Effect, executed}
 use Rattle.rv32_machine.specs.Places.{pair_at, turn_of, turn_at}

@@ -1,5 +1,5 @@
 -- The newest step of the run of a generated system: it keeps what is declared, and misuses no service.
-use Rattle.std.proofs.Common.{◌≡◌, ℕ, ◌<◌, ◌≤◌, true, false, List, [], ◌∷◌, length, Contains, Option, refl, sym, ap, ◌∙◌}
+use Rattle.std.proofs.Common.{ℕ, ◌≤◌, List, [], ◌∷◌, length, Contains, refl, sym, ap, ◌∙◌}
 use Rattle.std.specs.List.{AllByRecursion}
 use Rattle.elf_image.specs.Image.{ImageData, has_word}
 use Rattle.oil_model.specs.declared.system.System.{System}
@@ -132,6 +132,6 @@ within_bounds tasks flow blocks count event earlier state newest context =
     let plant = plant_with tasks flow blocks in
     each_member (λ (l : Loop). AllByRecursion (λ laps. laps ≤ l.bound) (laps_of (the_image tasks) l context (event ∷ earlier))) (the_timing tasks).loops
     (λ l has. go_round_at_most plant l l.bound 0 (event ∷ earlier) state context newest.belongs has
-        (loops_are_counted tasks plant l newest.drawn (record { image_is = refl; system_is = refl; timing_is = refl; belong = newest.belongs }) has)
-        (run_with tasks flow blocks count event earlier state newest) (pairs_with tasks flow blocks count event earlier state newest)
-        (nothing_misused tasks flow blocks count event earlier state newest))
+    (loops_are_counted tasks plant l newest.drawn (record { image_is = refl; system_is = refl; timing_is = refl; belong = newest.belongs }) has)
+    (run_with tasks flow blocks count event earlier state newest) (pairs_with tasks flow blocks count event earlier state newest)
+    (nothing_misused tasks flow blocks count event earlier state newest))

@@ -1,5 +1,5 @@
 -- The run of a generated system has no broken step.
-use Rattle.std.proofs.Common.{◌≡◌, ℕ, true, false, List, ◌∷◌, sym, ◌∙◌, subst}
+use Rattle.std.proofs.Common.{◌≡◌, ℕ, true, false, List, sym, ◌∙◌, subst}
 use Rattle.osek_machine.specs.Events.{Event, Arrive, Take, Execute, Serve, Idle}
 use Rattle.osek_machine.specs.State.{MachineState}
 use Rattle.flow_graph.specs.declared.flow.Flow.{Flow}
@@ -14,7 +14,6 @@ use Rattle.demo_gen.specs.Demo.{the_image, the_system, the_timing}
 use Rattle.demo_gen.specs.Draws.{tasks_of}
 use Rattle.demo_gen.proofs.Ranges.{are_drawn}
 use Rattle.demo_plants.proofs.Closing.{same_plant}
-use Rattle.demo_plants.proofs.Simple.{plant_with}
 use Rattle.demo_runs.specs.Laws.{RunsHaveNoBrokenStep}
 use Rattle.demo_runs.specs.Schedule.{the_schedule}
 use Rattle.demo_runs.proofs.Arriving.{arrives_in_time}

@@ -1,5 +1,5 @@
 -- The schedule by which a generated system is played: each alarm arrives once, at the first moment, and nothing else does.
-use Rattle.std.specs.Prelude.{◌≡◌, ℕ, List, [], ◌∷◌, map, refl}
+use Rattle.std.specs.Prelude.{ℕ, map}
 use Rattle.std.specs.List.{range_with_len}
 use Rattle.osek_kernel.specs.declared.source.Source.TheVariants as sources
 use Rattle.replay.specs.declared.schedule.Arrival.{Arrival}

@@ -1,8 +1,7 @@
-use Rattle.std.proofs.Common.{◌≡◌, ℕ, ◌+◌, List, [], ◌∷◌, ◌++◌, map, sym, ap, ◌∙◌, arith}
+use Rattle.std.proofs.Common.{◌≡◌, List, [], ◌∷◌, ◌++◌, map, sym, ap, ◌∙◌, arith}
 use Rattle.std.specs.List.{range_with_len}
 use Rattle.std.proofs.lemmas.List.FromFn.{map-range_with_len_more}
 use Rattle.replay.specs.declared.schedule.Arrival.{Arrival}
-use Rattle.replay.specs.declared.schedule.Schedule.{Schedule}
 use Rattle.demo_runs.specs.Schedule.{end_moment, arrival_of}
 use Rattle.demo_runs.proofs.playing.schedule_of.Goals as goal
 
