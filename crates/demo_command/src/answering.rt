@@ -26,21 +26,11 @@ pub fn demonstrated(alloc: Global, seed: u32, count: usize) -> Result<Bytes, Hal
     ensures { Says (AnswersDemo seed count) result }
 {
     let generated = read_generated(alloc, seed, count)?;
-    played(
-        alloc,
-        &generated.plant,
-        generated.states.as_slice(),
-        count,
-    )
+    played(alloc, &generated.plant, generated.states.as_slice(), count)
 }
 
 /// The answer for a generated system of so many tasks.
-fn played(
-    alloc: Global,
-    plant: &Plant,
-    states: &[AbsState],
-    count: usize,
-) -> Result<Bytes, Halt>
+fn played(alloc: Global, plant: &Plant, states: &[AbsState], count: usize) -> Result<Bytes, Halt>
     requires drawn { (seed : ℕ) × IsDemoPlant seed count plant.now }
     requires ready { IsReady plant.now states.now }
     ensures { Says (AnswersRun plant.now states.now count) result }
