@@ -66,7 +66,10 @@ is_written name analysed states bound tree cert text sound same is =
 
 -- ---- a refusal
 
-given_err : (refused : Refusal) (given : Result (List ℕ) Refusal) → Some {A = Result (List ℕ) Refusal} (Err refused) ≡ Some given → given ≡ Err refused
+abbrev refuses : Refusal → Result (List ℕ) Refusal
+refuses refused = Err refused
+
+given_err : (refused : Refusal) (given : Result (List ℕ) Refusal) → Some (refuses refused) ≡ Some given → given ≡ refuses refused
 given_err refused given is = cc
 
 told_refusal : (refusal : Option Refusal) (given : Result (List ℕ) Refusal) → option_map Err refusal ≡ Some given
@@ -100,6 +103,7 @@ found_answered name analysed states bound cuts (Err NoTree) (Err faults.NoTree) 
     (no_tree_refusal, refl, given_err no_tree_refusal given told)
 found_answered name analysed states bound cuts (Err Cuts) (Err (faults.Cuts count)) given says sound ray told =
     (cuts_refusal count, ap (λ (n : ℕ). cuts_refusal n) says, given_err (cuts_refusal count) given told)
+found_answered name analysed states bound cuts comes_to (Err (faults.Solve solving.Memory)) given says sound ray told = absurd says
 found_answered name analysed states bound cuts (Err (Refused rows outcome)) (Err (faults.Solve fault)) given says sound ray told =
     refused_at (rows_of analysed.plant states analysed.task) rows outcome fault given (says_outcome cuts rows outcome fault says) ray told
 found_answered name analysed states bound cuts comes_to (Ok cert) (Err refused) says sound ray told = absurd told

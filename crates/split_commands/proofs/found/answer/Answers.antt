@@ -1,4 +1,4 @@
-use Rattle.std.proofs.Common.{ℕ, ◌<◌, ◌^◌, Fits, w64, arith}
+use Rattle.std.proofs.Common.{rules, ℕ, ◌<◌, ◌^◌, Fits, w64, arith}
 use Rattle.split_search.specs.Found.{search_of}
 use Rattle.split_commands.proofs.Searched.{is_sound, found_said}
 use Rattle.split_commands.proofs.found.answer.Goals as goal
