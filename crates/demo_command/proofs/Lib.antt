@@ -1,9 +1,9 @@
-pub mod Seeing
+pub mod GreatestSeen
 pub mod States
 pub mod TimingAgain
 pub mod Declared
 pub mod TaskBounds
 pub mod Judged
-pub mod Answering
+pub mod GivenAnswers
 pub mod Honest
 pub mod Headline

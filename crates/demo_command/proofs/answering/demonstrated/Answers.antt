@@ -4,7 +4,7 @@ use Rattle.command_steps.specs.Steps.{Says}
 use Rattle.demo_gen.specs.Demo.{the_states}
 use Rattle.demo_runs.specs.Laws.{IsDemoPlant}
 use Rattle.demo_command.specs.Working.Ready.{IsReady, AnswersRun}
-use Rattle.demo_command.proofs.Answering.{demo_said}
+use Rattle.demo_command.proofs.GivenAnswers.{demo_said}
 use Rattle.demo_command.proofs.States.{plant_ready}
 use Rattle.demo_command.proofs.answering.demonstrated.Goals as goal
 

@@ -2,7 +2,7 @@ use Rattle.std.proofs.Common.{List, subst}
 use Rattle.replay.specs.declared.response.Response.{Response}
 use Rattle.command_steps.specs.Steps.{Says}
 use Rattle.demo_command.specs.Demo.{AnswersLines}
-use Rattle.demo_command.proofs.Answering.{run_said}
+use Rattle.demo_command.proofs.GivenAnswers.{run_said}
 use Rattle.demo_command.proofs.answering.played.Goals as goal
 
 pub returns : goal.returns

@@ -1,5 +1,5 @@
 use Rattle.std.proofs.Common.{◌∙◌, sym}
-use Rattle.demo_command.proofs.Seeing.{seen_more}
+use Rattle.demo_command.proofs.GreatestSeen.{seen_more}
 use Rattle.demo_command.proofs.seeing.seen_of.Goals as goal
 
 pub loop-response-preserved : goal.loop-response-preserved
