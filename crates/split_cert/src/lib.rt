@@ -14,7 +14,7 @@ mod write;
 
 pub use cert::SplitCert;
 pub use checking::check_split;
-pub use laws::good_splits_bound_activations;
+pub use laws::{good_splits_bound_activations, split_certificates_have_one_verdict};
 pub use read::read_split;
 pub use verdict::{SplitVerdict, SplitWhy};
 pub use write::write_split;
