@@ -33,4 +33,4 @@ honest outside reads (Some (command.SplitFind oil elf timing task states bound c
 honest outside reads (Some (command.TraceRecord oil elf timing schedule)) = trace_record_honest outside reads oil elf timing schedule
 honest outside reads (Some (command.TraceJudge oil elf timing task certificate trace)) =
     trace_judge_honest outside reads oil elf timing task certificate trace
-honest outside reads (Some (command.Demo seed count)) = demo_honest outside reads seed count
+honest outside reads (Some (command.Demo seed count)) = demo_honest outside reads [] seed count

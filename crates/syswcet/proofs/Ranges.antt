@@ -34,7 +34,7 @@ anything (Some x) = tt
 
 -- ---- numbers within a range
 
-IsWithin : ℕ → ℕ → ℕ → Type 0
+abbrev IsWithin : ℕ → ℕ → ℕ → Type 0
 IsWithin low high n = (low ≤ n) × (n ≤ high)
 
 number_is_within : (low high : ℕ) (text : List ℕ) → IfSome (number_within low high text) (IsWithin low high)
@@ -52,7 +52,7 @@ few_cuts words = either (λ (o : Option ℕ). IfSome o (λ cuts. cuts ≤ 100)) 
 
 -- ---- the commands
 
-IsRanged : Option Command → Type 0
+abbrev IsRanged : Option Command → Type 0
 IsRanged o = IfSome o IsInRange
 
 with_limit : (f : ℕ → Command) (o : Option ℕ) → ((n : ℕ) → IsInRange (f n)) → IsRanged (option_map f o)
