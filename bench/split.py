@@ -12,7 +12,7 @@ are no whole numbers. `split find` gets its whole cycles as the bound, finds a c
 Printed are the rows, the columns and those among them that are whole numbers; the bound over fractions, which `bound` tells, and
 that over whole numbers; cuts of the certificate; milliseconds of processor time, the least of three runs, of the whole command
 `split find`, from its files to the certificate's text, and of each solver, which gets the rows; and how much longer each solver
-takes. A solver that isn't installed is skipped.
+takes, or `-` where it found no greatest value in a minute. A solver that isn't installed is skipped.
 """
 import json
 import math
@@ -81,15 +81,22 @@ class Rows:
 
 
 def by_glpsol(lp, folder):
+    """The time and the greatest value, or None for both where it isn't found in a minute."""
     solution = os.path.join(folder, "solution")
     took, _ = least(["glpsol", "--lp", lp, "-o", solution])
+    if not os.path.exists(solution):
+        return None, None
     with open(solution, encoding="utf-8") as text:
-        return took, float(re.search(r"^Objective:\s+\S+ = (\S+)", text.read(), re.M).group(1))
+        value = float(re.search(r"^Objective:\s+\S+ = (\S+)", text.read(), re.M).group(1))
+    os.remove(solution)
+    return took, value
 
 
 def by_cbc(lp, folder):
+    """The same."""
     took, text = least(["cbc", lp, "solve"])
-    return took, abs(float(re.search(r"^Objective value:\s+(\S+)", text, re.M).group(1)))
+    value = re.search(r"^Objective value:\s+(\S+)", text, re.M)
+    return (took, abs(float(value.group(1)))) if value else (None, None)
 
 
 SOLVERS = {"glpsol": by_glpsol, "cbc": by_cbc}
@@ -105,7 +112,8 @@ def solved(rows, folder):
         times[name] = None
         if shutil.which(name):
             times[name], value = solve(lp, folder)
-            values.add(math.floor(value + 1e-6))
+            if value is not None:
+                values.add(math.floor(value + 1e-6))
     assert len(values) < 2, values
     return times, values.pop() if values else None
 
