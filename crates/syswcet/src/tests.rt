@@ -467,24 +467,30 @@ fn searches_for_cuts_end_with_their_reason(rt: HostRuntime) -> Result<(), Fail> 
     Ok(())
 }
 
+/// The text with another byte at a place.
+fn changed(alloc: Global, text: &[u8], place: usize, other: u8) -> Result<Vec<u8>, Memory> {
+    let mut copy = Vec::new(alloc);
+    for (at, byte) in text.iter().enumerate() {
+        copy.push(if at == place { other } else { *byte })?;
+    }
+    Ok(copy)
+}
+
 #[test]
 fn a_found_certificate_of_cuts_is_good_for_its_bound_alone(rt: HostRuntime) -> Result<(), Fail> {
-    let words = "split find oil elf times T k 127";
-    let (ended, out) = outcome(rt.alloc(), words, &two_tasks(b""), Failing::Nothing)?;
+    let find = "split find oil elf times T k 127";
+    let check = "split check oil elf times T c";
+    let (ended, found) = outcome(rt.alloc(), find, &two_tasks(b""), Failing::Nothing)?;
     assert_eq!(rt; ended, Status::Ok);
-    let mut found = Vec::from_slice(rt.alloc(), out.written())?;
-    for (last_digit, text, status) in [
-        (b'7', "yes T 127\n", Status::Ok),
-        (b'6', "no leaf 2 bound\n", Status::No),
-    ] {
-        // The text begins with `{"bound":"127"`.
-        found[12] = last_digit;
-        let words = "split check oil elf times T c";
-        let held = two_tasks(found.as_slice());
-        let (ended, out) = outcome(rt.alloc(), words, &held, Failing::Nothing)?;
-        assert_eq!(rt; ended, status);
-        assert_eq!(rt; out.written(), text.as_bytes());
-    }
+    let held = two_tasks(found.written());
+    let (ended, out) = outcome(rt.alloc(), check, &held, Failing::Nothing)?;
+    assert_eq!(rt; ended, Status::Ok);
+    assert_eq!(rt; out.written(), b"yes T 127\n".as_slice());
+    // The text begins with `{"bound":"127"`.
+    let lower = changed(rt.alloc(), found.written(), 12, b'6')?;
+    let (ended, out) = outcome(rt.alloc(), check, &two_tasks(&lower), Failing::Nothing)?;
+    assert_eq!(rt; ended, Status::No);
+    assert_eq!(rt; out.written(), b"no leaf 2 bound\n".as_slice());
     Ok(())
 }
 
