@@ -6,18 +6,22 @@ FLAGS = -march=rv32im -mabi=ilp32 -ffreestanding -O2 -fno-jump-tables -fno-optim
 ifeq ($(COMPILER),clang)
 COMPILE = clang --target=riscv32-unknown-elf -mno-relax $(FLAGS)
 LINK = ld.lld --no-relax
+KIND = .clang
 else
 COMPILE = riscv64-unknown-elf-gcc -msmall-data-limit=0 -fno-toplevel-reorder $(FLAGS)
 LINK = riscv64-unknown-elf-ld -m elf32lriscv --no-relax
+KIND =
 endif
+# each compiler's objects have names of their own, and the program is linked each time, since either may have made what is there
+override OBJECTS := $(OBJECTS:.o=$(KIND).o)
 
 $(PROGRAM): $(OBJECTS) $(here)link.ld
 	$(LINK) -T $(here)link.ld $(OBJECTS) -o $@
 
-%.o: %.c $(here)osek.h $(HEADERS)
+%$(KIND).o: %.c $(here)osek.h $(HEADERS)
 	$(COMPILE) -c $< -o $@
 
 clean:
-	rm -f $(OBJECTS)
+	rm -f *.o
 
-.PHONY: clean
+.PHONY: clean $(PROGRAM)
