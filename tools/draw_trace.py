@@ -368,13 +368,23 @@ def main():
     for name in ("--from", "--to", "--width"):
         if name in words:
             at = words.index(name)
-            options[name], words = int(words[at + 1]), words[:at] + words[at + 2:]
-    if len(words) < 3 or len(words) % 2 == 0:
+            options[name], words = "".join(words[at + 1:at + 2]), words[:at] + words[at + 2:]
+    numbers = [*options.values(), *words[4::2]]
+    if len(words) < 3 or len(words) % 2 == 0 or not all(number.isdigit() for number in numbers):
         sys.exit(__doc__)
-    system = System(read_oil(open(words[0], encoding="latin-1").read()))
-    image = Image(open(words[1], "rb").read())
-    trace = json.load(open(words[2], encoding="utf-8"))
+    options = {name: int(number) for name, number in options.items()}
     bounds = {words[i]: int(words[i + 1]) for i in range(3, len(words), 2)}
+    try:
+        with open(words[0], encoding="latin-1") as oil, open(words[1], "rb") as elf, open(words[2], encoding="utf-8") as text:
+            system, image, trace = System(read_oil(oil.read())), Image(elf.read()), json.load(text)
+        trace["mode"], trace["events"], trace["end"]
+    except OSError as fault:
+        sys.exit(f"draw_trace: {fault.filename}: {fault.strerror}")
+    except (IndexError, KeyError, TypeError, ValueError, struct.error):
+        sys.exit("draw_trace: one of the files isn't what its place is for; `show code` and `trace judge` say what is wrong with it")
+    for task in bounds:
+        if task not in system.tasks:
+            sys.exit(f"draw_trace: the system has no task {task}")
     picture = Picture(system, trace, bounds, options.get("--from", 0), options.get("--to", trace["end"]),
                       options.get("--width", 1200))
     spans, responses, arrivals, calls, work = follow(system, image, trace)
