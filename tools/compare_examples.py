@@ -1,20 +1,22 @@
 #!/usr/bin/env python3
 """Types the commands of a guide, and holds what they print against what the guide prints.
 
-    tools/compare_examples.py [--write] [GUIDE.md]
+    tools/compare_examples [--write] [GUIDE.md]
 
 A command stands behind `    $ `, and what it prints on the indented lines below it, up to the next command or text. A last
 line `..` stands for any further lines; `..` at the end of a line for the rest of it. They run in the repository's
-top folder, in order. A command of `make`, and those that use what it makes, are left out, with a word, where the compiler
-is missing or is another release than the one that made the kept files. With --write the guide gets what they print. The
-status is 1 where something differs.
+top folder, in order, with a folder of their own in place of /tmp. A command of `make`, and those that use what it makes, are
+left out, with a word, where the compiler is missing or is another release than the one that made the kept files. With --write
+the guide gets what they print. The status is 1 where something differs.
 """
 import os
 import shutil
 import subprocess
 import sys
+import tempfile
 
-ROOT = os.path.dirname(os.path.dirname(os.path.abspath(__file__)))
+from programs import ROOT, built
+
 COMPILER, RELEASE = "riscv64-unknown-elf-gcc", "12.2.0"
 PROMPT, INDENT = "    $ ", "    "
 
@@ -61,9 +63,17 @@ def short(told, printed):
 def main():
     writes = "--write" in sys.argv
     paths = [word for word in sys.argv[1:] if word != "--write"] or [os.path.join(ROOT, "docs", "GUIDE.md")]
-    with open(paths[0]) as text:
+    if len(paths) > 1 or not os.path.isfile(paths[0]):
+        sys.exit(__doc__)
+    built("compare_examples", "syswcet")
+    with tempfile.TemporaryDirectory() as folder:
+        return compared(paths[0], writes, folder)
+
+
+def compared(path, writes, folder):
+    """Types the commands of the guide, whose files in /tmp go into the folder, and gives the status."""
+    with open(path, encoding="utf-8") as text:
         lines = text.read().split("\n")
-    subprocess.run([os.path.join(ROOT, "syswcet")], capture_output=True, check=False)
     missing = why_not_made()
     if missing:
         print(f"compare_examples: {missing}: the examples aren't rebuilt")
@@ -78,14 +88,15 @@ def main():
             made.update(word.split("=", 1)[1] for word in words if word.startswith("PROGRAM="))
             parts += lines[begin:end]
             continue
-        done = subprocess.run(["bash", "-c", command], cwd=ROOT, capture_output=True, text=True, check=False)
+        typed = command.replace("/tmp/", folder + "/")
+        done = subprocess.run(["bash", "-c", typed], cwd=ROOT, capture_output=True, text=True, check=False)
         printed = done.stdout.splitlines()
         if not writes and not is_as_told(told, printed):
             wrong += 1
             print(f"compare_examples: {command}\n  is to print {told}\n  and printed {printed} {done.stderr}")
         parts += [INDENT + line for line in short(told, printed)]
     if writes:
-        with open(paths[0], "w") as out:
+        with open(path, "w", encoding="utf-8") as out:
             out.write("\n".join(parts + lines[copied:]))
     print(f"compare_examples: {len(found)} commands, {wrong} print something else")
     return 1 if wrong else 0

@@ -1,17 +1,18 @@
 #!/usr/bin/env python3
 """Holds the rows that list_rows writes against the lists that bench/rows keeps, entry for entry.
 
-    tools/compare_rows.py [BENCH_ROWS]
+    tools/compare_rows [LIST_ROWS]
 
-The kept lists of the systems in examples/ were made by another program. The status is 1 where one
-differs.
+The kept lists of the systems in examples/ were made by another program. The program list_rows is built where it
+is missing or older than a source. The status is 1 where one differs.
 """
 import json
 import os
 import subprocess
 import sys
 
-ROOT = os.path.dirname(os.path.dirname(os.path.abspath(__file__)))
+from programs import ROOT, built
+
 KEPT = {
     "demo": ("A", ("T", "H")),
     "loop": ("B", ("L", "T")),
@@ -20,15 +21,9 @@ KEPT = {
 
 
 def main():
-    program = sys.argv[1] if len(sys.argv) > 1 else os.path.join(ROOT, "crates/list_rows/out/list_rows")
-    if not os.path.exists(program):
-        crate = os.path.join(ROOT, "crates/list_rows")
-        words = [os.path.join(ROOT, "examples/demo", name) for name in ("s.oil", "s.elf", "s.json")]
-        kept = os.path.join(ROOT, "examples/demo/k")
-        subprocess.run(["rt", "run", "--", *words, "T", kept, "json"], cwd=crate, capture_output=True, check=False)
-    if not os.path.exists(program):
-        print(f"compare_rows: {program} is missing: skipped")
-        return 0
+    if len(sys.argv) > 2 or not all(map(os.path.exists, sys.argv[1:])):
+        sys.exit(__doc__)
+    program = os.path.abspath(sys.argv[1]) if len(sys.argv) > 1 else built("compare_rows", "list_rows")
     count, wrong = 0, 0
     for system, (name, tasks) in KEPT.items():
         for task, form in ((task, form) for task in tasks for form in ("", "_full")):

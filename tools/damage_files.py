@@ -19,7 +19,8 @@ import sys
 import tempfile
 import time
 
-ROOT = os.path.dirname(os.path.dirname(os.path.abspath(__file__)))
+from programs import ROOT, built
+
 PROGRAM = os.path.join(ROOT, "crates", "syswcet", "out", "syswcet")
 EXAMPLES = os.path.join(ROOT, "examples")
 MOST_SECONDS, MOST_BYTES = 10, 4 << 30
@@ -265,9 +266,11 @@ def keep(words, files, number):
 
 
 def main():
-    seconds = float(sys.argv[1]) if len(sys.argv) > 1 else 60
-    seed = int(sys.argv[2]) if len(sys.argv) > 2 else 1
-    subprocess.run([os.path.join(ROOT, "syswcet"), "show"], capture_output=True, check=False)
+    given = sys.argv[1:]
+    if len(given) > 2 or not all(word.isdigit() for word in given):
+        sys.exit(__doc__)
+    seconds, seed = map(int, given + ["60", "1"][len(given):])
+    built("damage_files", "syswcet")
     rng, made, wrong, slow, statuses = random.Random(seed), 0, 0, [], {}
     until, sound = time.monotonic() + seconds, samples()
     while time.monotonic() < until:
@@ -287,7 +290,7 @@ def main():
     for name, words, files in hostile():
         why, took, answer = broken(words, files)
         wrong += bool(why)
-        print(f"damage_files: {name}: {took:.2f} s, {why or answer.splitlines()[0]}")
+        print(f"damage_files: {name}: {took:.2f} s, {why or (answer or '(nothing)').splitlines()[0]}")
         slow.append((took, name, answer))
     slow.sort(reverse=True)
     print("damage_files: slowest:", "; ".join(f"{took:.2f} s {name}" for took, name, _ in slow[:5]))

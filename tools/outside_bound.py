@@ -2,8 +2,9 @@
 
     tools/outside_bound OIL ELF TIMING TASK [STATES] CERT
 
-writes the certificate CERT, over the listed states or else over those that `tools/list_states` lists, and ends with what `./syswcet check` says of it: nothing of this script, nor of the solver, has to
-be trusted. `list_rows` gives the rows of the task with their links; chains of columns are made one; `esolver` (Debian's
+writes the certificate CERT, over the listed states or else over those that `tools/list_states` lists, and ends with what
+`./syswcet check` says of it: nothing of this script, nor of the solver, has to be trusted. `list_rows`, which is built where
+it has to be, gives the rows of the task with their links; chains of columns are made one; `esolver` (Debian's
 qsopt-ex) or else `glpsol` (glpk-utils) solves them; the multipliers of the chains' rows follow from the others. Exact multipliers
 are brought to one denominator. Where that, or a multiplier, reaches 2^80, and for a solver with floating point, the rows are
 solved for costs that are higher by a little, and the multipliers rounded, so that every column stays covered; what this costs is told.
@@ -12,6 +13,7 @@ import json
 import math
 import os
 import re
+import shutil
 import subprocess
 import sys
 import tempfile
@@ -20,7 +22,6 @@ from fractions import Fraction
 
 ROOT = os.path.dirname(os.path.dirname(os.path.abspath(__file__)))
 SYSWCET = os.path.join(ROOT, "syswcet")
-LIST_ROWS = os.path.join(ROOT, "crates", "list_rows", "out", "list_rows")
 LIMIT = 1 << 80
 # rounded multipliers: costs are raised by 1 / RAISE cycles, and the denominator is ROUND
 RAISE, ROUND = 1 << 20, 1 << 48
@@ -149,7 +150,7 @@ def by_glpsol(path, count):
 
 def solver():
     for name, call in (("esolver", by_esolver), ("glpsol", by_glpsol)):
-        if subprocess.run(["which", name], capture_output=True, check=False).returncode == 0:
+        if shutil.which(name):
             return name, call
     sys.exit("outside_bound: neither esolver (qsopt-ex) nor glpsol (glpk-utils) is there")
 
@@ -181,6 +182,7 @@ def rounded(full, kept, multipliers):
 def main():
     if len(sys.argv) not in (6, 7):
         sys.exit(__doc__)
+    solver()
     with tempfile.TemporaryDirectory() as folder:
         states = sys.argv[5] if len(sys.argv) == 7 else listed_states(sys.argv[1:4], os.path.join(folder, "states"))
         return certified([*sys.argv[1:5], states], sys.argv[-1])
@@ -197,10 +199,11 @@ def listed_states(files, path):
 
 def certified(files, cert_path):
     """Writes the certificate, and gives the status of its check."""
-    if not os.path.exists(LIST_ROWS):
-        sys.exit("outside_bound: build list_rows first: `rt run` in crates/list_rows")
+    made = subprocess.run([os.path.join(ROOT, "tools", "built"), "list_rows"], stdout=subprocess.PIPE, text=True, check=False)
+    if made.returncode:
+        sys.exit("outside_bound: list_rows isn't there")
     start = time.monotonic()
-    listed = subprocess.run([LIST_ROWS, *files, "full", "json"], capture_output=True, check=False)
+    listed = subprocess.run([made.stdout.rstrip("\n"), *files, "full", "json"], capture_output=True, check=False)
     if listed.returncode:
         sys.exit("outside_bound: list_rows: " + listed.stderr.decode())
     full = Rows(json.loads(listed.stdout))

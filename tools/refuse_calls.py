@@ -13,7 +13,8 @@ import subprocess
 import sys
 import tempfile
 
-ROOT = os.path.dirname(os.path.dirname(os.path.abspath(__file__)))
+from programs import ROOT, built
+
 PROGRAM = os.path.join(ROOT, "crates", "syswcet", "out", "syswcet")
 DEMO = [f"examples/demo/{name}" for name in ("s.oil", "s.elf", "s.json")]
 COMMANDS = [
@@ -46,7 +47,7 @@ def is_right(kind, words, found, own):
 
 
 def main():
-    subprocess.run([os.path.join(ROOT, "syswcet"), "show"], capture_output=True, check=False)
+    built("refuse_calls", "syswcet")
     wrong = 0
     with tempfile.TemporaryDirectory() as folder:
         shim, counted = os.path.join(folder, "refuse_calls.so"), os.path.join(folder, "counted")

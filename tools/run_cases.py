@@ -1,7 +1,7 @@
 #!/usr/bin/env python3
 """Runs the program on cases, each with its words, files, status and text.
 
-    tools/run_cases.py [CASES.jsonl ..]
+    tools/run_cases [CASES.jsonl ..]
 
 A case is a JSON object on a line of its own: `words`, `files` (a name and its bytes as Latin-1
 characters), `status` and `stdout` (Latin-1 too). Without arguments, the cases in tools/cases.jsonl
@@ -14,30 +14,31 @@ import subprocess
 import sys
 import tempfile
 
-ROOT = os.path.dirname(os.path.dirname(os.path.abspath(__file__)))
-PROGRAM = os.path.join(ROOT, "crates", "syswcet", "out", "syswcet")
+from programs import ROOT, built
 
 
-def differs(case):
+def differs(program, case):
     with tempfile.TemporaryDirectory() as folder:
         for name, text in case["files"].items():
             with open(os.path.join(folder, name), "wb") as out:
                 out.write(text.encode("latin-1"))
-        done = subprocess.run([PROGRAM, *case["words"]], cwd=folder, capture_output=True)
+        done = subprocess.run([program, *case["words"]], cwd=folder, capture_output=True, check=False)
     found = (done.returncode, done.stdout.decode("latin-1"), done.stderr)
     return found if found != (case["status"], case["stdout"], b"") else None
 
 
 def main():
-    subprocess.run([os.path.join(ROOT, "syswcet")], capture_output=True, check=False)
     paths = sys.argv[1:] or [os.path.join(ROOT, "tools", "cases.jsonl")]
+    if not all(map(os.path.isfile, paths)):
+        sys.exit(__doc__)
+    program = built("run_cases", "syswcet")
     count, wrong = 0, 0
     for path in paths:
         with open(path) as lines:
             for number, line in enumerate(lines, 1):
                 case = json.loads(line)
                 count += 1
-                found = differs(case)
+                found = differs(program, case)
                 if found is not None:
                     wrong += 1
                     print(f"{path} line {number}: {found}, not {case['status']}, {case['stdout']!r}")
