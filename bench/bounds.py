@@ -22,7 +22,7 @@ import sys
 import tempfile
 
 from compare import as_lp, by_esolver, by_glpsol
-from systems import ROOT, alarmed
+from systems import ROOT, alarmed, words_of
 
 SYSTEMS = (
     ("demo", ("T", "H")),
@@ -114,8 +114,9 @@ def growth(program):
 
 
 def main():
-    program = os.path.abspath(sys.argv[1]) if len(sys.argv) > 1 else os.path.join(ROOT, "crates/syswcet/out/syswcet")
-    tool = os.path.abspath(sys.argv[2]) if len(sys.argv) > 2 else os.path.join(ROOT, "crates/list_rows/out/list_rows")
+    given = [os.path.abspath(word) for word in words_of(__doc__, 2)]
+    program = given[0] if given else os.path.join(ROOT, "crates/syswcet/out/syswcet")
+    tool = given[1] if len(given) > 1 else os.path.join(ROOT, "crates/list_rows/out/list_rows")
     if not os.path.exists(program):
         print(f"bounds: {program} is missing: skipped")
         return 0

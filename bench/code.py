@@ -15,7 +15,7 @@ import sys
 import tempfile
 import time
 
-from systems import END, NOP, OIL, RETURN, ROOT, TIMES, elf, straight
+from systems import END, OIL, RETURN, ROOT, TIMES, elf, straight, words_of
 
 
 def call(place, target):
@@ -58,7 +58,8 @@ def run(program, words):
 
 
 def main():
-    program = sys.argv[1] if len(sys.argv) > 1 else os.path.join(ROOT, "crates/syswcet/out/syswcet")
+    given = [os.path.abspath(word) for word in words_of(__doc__, 1)]
+    program = given[0] if given else os.path.join(ROOT, "crates/syswcet/out/syswcet")
     if not os.path.exists(program):
         print(f"code: {program} is missing: skipped")
         return 0

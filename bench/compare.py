@@ -8,8 +8,8 @@ and generated ones are taken: chains, flows, long code, states times nodes, loop
 them with 1,500 rows and more, and one with a ray. Each list is solved by each program in turn, in the
 same run; the peers get it in LP format. Printed are milliseconds of processor time, for `solve` of a
 call alone (the mean of the calls that fill 0.2 s), for a peer of its whole run, the ratio peer / solve,
-and whether the values agree. A peer that isn't installed is skipped, and one that takes a minute has no
-answer.
+and whether the values agree; the status is 1 where they don't. A peer that isn't installed is skipped, and
+one that takes a minute has no answer.
 """
 import json
 import os
@@ -230,7 +230,10 @@ def by_esolver(lp, folder):
 
 
 def main():
-    program, paths = sys.argv[1], sys.argv[2:]
+    program, paths, wrong = os.path.abspath(sys.argv[1]), sys.argv[2:], 0
+    if not os.path.exists(program):
+        print(f"compare: {program} is missing: skipped")
+        return 0
     with tempfile.TemporaryDirectory() as folder:
         if not paths:
             kept = os.path.join(HERE, "rows")
@@ -268,8 +271,12 @@ def main():
                 told.append(f"{peer} {cpu:.1f} ms, ratio {cpu / mine['ms']:.1f}, {agree}")
             if "pivots" in data and data["pivots"] != mine["pivots"]:
                 told.append(f"DISAGREES: {data['pivots']} pivots are known")
+            wrong += any("DISAGREES" in part for part in told)
             print("; ".join(told))
+    return 1 if wrong else 0
 
 
 if __name__ == "__main__":
-    main()
+    if not all(map(os.path.isfile, sys.argv[2:])) or sys.argv[1:2] in ([], ["-h"], ["--help"]):
+        sys.exit(__doc__)
+    sys.exit(main())

@@ -18,7 +18,7 @@ import tempfile
 
 from bounds import spent
 from compare import as_lp, by_esolver, by_glpsol
-from systems import ROOT, elf
+from systems import ROOT, elf, words_of
 
 BASE = 0x1000
 
@@ -85,9 +85,13 @@ def expected(program, count, folder):
 
 
 def main():
-    given = [os.path.abspath(word) for word in sys.argv[1:]]
+    given = [os.path.abspath(word) for word in words_of(__doc__, 2)]
     program = given[0] if given else os.path.join(ROOT, "crates/syswcet/out/syswcet")
     tool = given[1] if len(given) > 1 else os.path.join(ROOT, "crates/list_rows/out/list_rows")
+    missing = [path for path in (program, tool) if not os.path.exists(path)]
+    if missing:
+        print(f"demo: {', '.join(missing)} missing: skipped")
+        return 0
     compared = 0
     for seed, count in [(1, 1), (1, 3), (2, 2), (3, 4), (4, 5), (4294967295, 6), (0, 7), (9, 8)]:
         with tempfile.TemporaryDirectory() as folder:
@@ -116,7 +120,8 @@ def main():
                         times[peer] += spends / 1000
             told = ["skipped" if not shutil.which(peer) else f"{spends / took:.1f}" for peer, spends in times.items()]
             print(f"{seed:<7}{took:<17.2f}{told[0]:<16}{told[1]}")
+    return 0
 
 
 if __name__ == "__main__":
-    main()
+    sys.exit(main())

@@ -60,6 +60,6 @@ def main():
 
 
 if __name__ == "__main__":
-    if len(sys.argv) != 6:
+    if len(sys.argv) != 6 or not all(word.isdigit() for word in sys.argv[1:5]):
         sys.exit(__doc__)
     main()

@@ -13,7 +13,7 @@ import sys
 import tempfile
 import time
 
-HERE = os.path.dirname(os.path.abspath(__file__))
+from systems import ROOT, words_of
 
 
 def text_of(names):
@@ -22,7 +22,11 @@ def text_of(names):
 
 
 def main():
-    program = sys.argv[1] if len(sys.argv) > 1 else os.path.join(HERE, "../crates/syswcet/out/syswcet")
+    given = [os.path.abspath(word) for word in words_of(__doc__, 1)]
+    program = given[0] if given else os.path.join(ROOT, "crates/syswcet/out/syswcet")
+    if not os.path.exists(program):
+        print(f"oil: {program} is missing: skipped")
+        return 0
     cases = [(count, [f"o{i:05}" for i in range(count)]) for count in (1_000, 10_000, 100_000)]
     cases.append(("100000, the last as the first", cases[-1][1][:-1] + ["o00000"]))
     with tempfile.TemporaryDirectory() as folder:
@@ -31,10 +35,11 @@ def main():
             with open(path, "w") as out:
                 size = out.write(text_of(names))
             start = time.perf_counter()
-            run = subprocess.run([program, "show", "oil", path], stdout=subprocess.DEVNULL)
+            run = subprocess.run([program, "show", "oil", path], stdout=subprocess.DEVNULL, check=False)
             ms = (time.perf_counter() - start) * 1000
             print(f"{told} OS objects, {size} bytes: status {run.returncode}, {ms:.0f} ms")
+    return 0
 
 
 if __name__ == "__main__":
-    main()
+    sys.exit(main())

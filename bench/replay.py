@@ -15,7 +15,7 @@ import sys
 import tempfile
 import time
 
-from systems import END, OIL, ROOT, elf
+from systems import END, OIL, ROOT, elf, words_of
 
 COUNT = [
     0x7FF00313,  # addi x6, x0, 2047
@@ -46,7 +46,8 @@ def least(command, folder):
 
 
 def main():
-    program = sys.argv[1] if len(sys.argv) > 1 else os.path.join(ROOT, "crates/syswcet/out/syswcet")
+    given = [os.path.abspath(word) for word in words_of(__doc__, 1)]
+    program = given[0] if given else os.path.join(ROOT, "crates/syswcet/out/syswcet")
     if not os.path.exists(program):
         print(f"replay: {program} is missing: skipped")
         return 0
@@ -62,7 +63,7 @@ def main():
             with open(os.path.join(folder, name), "wb") as out:
                 out.write(content)
         os.chmod(os.path.join(folder, "q"), 0o755)
-        took, text = least([os.path.abspath(program), "replay", "o", "e", "t", "p"], folder)
+        took, text = least([program, "replay", "o", "e", "t", "p"], folder)
         print(f"replay  {took:.2f} s, {STEPS / took / 1e6:.1f} million steps a second: {text}")
         if not shutil.which("qemu-riscv32"):
             print("qemu-riscv32 is missing: skipped")

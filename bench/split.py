@@ -25,7 +25,7 @@ import tempfile
 from bounds import EXAMPLES
 from compare import timed
 from large import large
-from systems import ROOT
+from systems import ROOT, words_of
 
 # by name: the files of OIL, ELF, timing and states
 SYSTEMS = {name: ("s.oil", "s.elf", "s.json", "k") for name in ("demo", "loop", "four", "compiled")}
@@ -188,7 +188,8 @@ def generated(programs, sizes, folder):
 def main():
     crates = os.path.join(ROOT, "crates")
     programs = [os.path.join(crates, name, "out", name) for name in ("syswcet", "list_rows", "list_states")]
-    programs[:len(sys.argv) - 1] = map(os.path.abspath, sys.argv[1:])
+    given = [os.path.abspath(word) for word in words_of(__doc__, 3)]
+    programs[:len(given)] = given
     missing = [path for path in programs if not os.path.exists(path)]
     if missing:
         print(f"split: {', '.join(missing)} missing: skipped")
@@ -206,6 +207,4 @@ def main():
 
 
 if __name__ == "__main__":
-    if len(sys.argv) > 4:
-        sys.exit(__doc__)
     sys.exit(main())

@@ -16,7 +16,8 @@ import subprocess
 import sys
 import tempfile
 
-HERE = os.path.dirname(os.path.abspath(__file__))
+from systems import ROOT, words_of
+
 SIZES = [1_000, 10_000]
 
 MAIN = r"""//! Times the reading of lists of scheduler states.
@@ -97,7 +98,12 @@ def states_of(count):
 
 
 def main():
-    repository = sys.argv[1] if len(sys.argv) > 1 else os.path.dirname(HERE)
+    repository = (words_of(__doc__, 1) or [ROOT])[0]
+    if not os.path.isfile(os.path.join(repository, "crates.txt")):
+        sys.exit(__doc__)
+    if not shutil.which("rt"):
+        print("states: rt is missing: skipped")
+        return
     folder = tempfile.mkdtemp()
     try:
         wanted, lines = lines_of(repository)

@@ -1,6 +1,7 @@
 """Systems that the benchmarks make: ELF files, straight code, and tasks that alarms activate."""
 import os
 import struct
+import sys
 
 ROOT = os.path.dirname(os.path.dirname(os.path.abspath(__file__)))
 NOP, RETURN = 0x00000013, 0x00008067
@@ -9,6 +10,14 @@ OIL = """OIL_VERSION = "2.5"; CPU Demo { APPMODE Main;
 TASK T { PRIORITY = 1; AUTOSTART = TRUE { APPMODE = Main; }; }; };
 """
 TIMES = '{"version":1,"classes":{"default":1},"services":{"default":10},"alarm":10,"interrupt":10%s}'
+
+
+def words_of(usage, most):
+    """The words of the command line, which are at most so many names of files; with others the script ends with its usage."""
+    words = sys.argv[1:]
+    if len(words) > most or any(word.startswith("-") for word in words):
+        sys.exit(usage)
+    return words
 
 
 def elf(words, entries=(("Task_T", 0),), base=0x100):
