@@ -1,5 +1,6 @@
 # How PROGRAM is made of OBJECTS: by Debian's gcc-riscv64-unknown-elf, or by clang and ld.lld with
-# `make COMPILER=clang`. docs/GUIDE.md says what each flag is for.
+# `make COMPILER=clang`. docs/GUIDE.md says what each flag is for; -fno-toplevel-reorder leaves functions and data in the order
+# of the sources.
 here := $(dir $(lastword $(MAKEFILE_LIST)))
 FLAGS = -march=rv32im -mabi=ilp32 -ffreestanding -O2 -fno-jump-tables -fno-optimize-sibling-calls \
 	-Wall -Wextra -I $(here)
