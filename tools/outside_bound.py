@@ -2,11 +2,13 @@
 
     tools/outside_bound OIL ELF TIMING TASK [STATES] CERT
 
-writes the certificate CERT, over the listed states or else over those that `tools/list_states` lists, and ends with what
-`./syswcet check` says of it: nothing of this script, nor of the solver, has to be trusted. `list_rows` gives the rows of the task with their links; chains of columns are made one; `esolver` (Debian's
-qsopt-ex) or else `glpsol` (glpk-utils) solves them; the multipliers of the chains' rows follow from the others. Exact multipliers
-are brought to one denominator. Where that, or a multiplier, reaches 2^80, and for a solver with floating point, the rows are
-solved for costs that are higher by a little, and the multipliers rounded, so that every column stays covered; what this costs is told.
+writes the certificate CERT, over the listed states or else over those that `tools/list_states` lists, and ends with
+what `./syswcet check` says of it: nothing of this script, nor of the solver, has to be trusted. `list_rows` gives the
+rows of the task with their links; chains of columns are made one; `esolver` (Debian's qsopt-ex) or else `glpsol`
+(glpk-utils) solves them; the multipliers of the chains' rows follow from the others. Exact multipliers are brought to
+one denominator. Where that, or a multiplier, reaches 2^80, and for a solver with floating point, the rows are solved
+for costs that are higher by a little, and the multipliers rounded, so that every column stays covered; what this costs
+is told.
 """
 import json
 import math
