@@ -4,7 +4,7 @@
     bench/code.py [SYSWCET]
 
 Three shapes: straight code; a chain of functions that each call the next one twice, so that the
-strings of open calls multiply; and the same chain, 17 deep, which has more than 65,535 nodes and
+strings of open calls multiply; and the same chain, 16 deep, which has more than 65,535 nodes and
 ends with a refusal. For each the number of nodes, the time of the whole command (the least of
 three) and its greatest memory are written.
 """

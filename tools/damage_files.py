@@ -4,8 +4,8 @@
 
 For so many seconds (60 by default) files of the examples are damaged at random: flipped bytes, cut ends,
 members doubled or left out, huge numbers, long names. Then each reader gets its hostile files once: deep nests and long
-lists up to the limit of its file. A run may take ten seconds and 4 GiB at most, ends with a status from 0 to 6 (a replay
-also with 7 and 11), writes something, and writes nothing to standard error. What breaks this is told and kept in
+lists up to the limit of its file. A run may take ten seconds and 4 GiB at most, ends with a status from 0 to 6 (`replay`
+and `trace record` also with 7 and 11), writes something, and writes nothing to standard error. What breaks this is told and kept in
 damage_found/; the slowest runs are told at the end. The status is 1 where something broke.
 """
 import json

@@ -8,8 +8,9 @@ interrupt service routine and each task, the greatest priority first. Dark: the 
 it is ready but one of less priority runs, whose ceiling or lock holds it off; pale: it is ready, and
 one that goes first runs. Grey on top of a line: the kernel takes a source or serves a call. Triangles
 are arrivals, ticks are calls. A frame round a line: the task holds resources, or its inner ceiling is in
-force (that of an internal resource, or of a task that can't be preempted). The whole height is shaded while interrupts are disabled or suspended. Below a task's line stands each of its activations
-with its response in cycles, and with the bound of the task where `TASK N` gives one, as `all` writes it.
+force (that of an internal resource, or of a task that can't be preempted). The whole height is shaded
+while interrupts are disabled or suspended. Below a task's line stands each of its activations with its
+response in cycles, and with the bound of the task where `TASK N` gives one, as `all` writes it.
 
 Only the Python standard library is used. The reader of OIL knows what the picture needs, and no more.
 """

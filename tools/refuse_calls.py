@@ -2,8 +2,8 @@
 
     tools/refuse_calls
 
-Each allocation, open, read and write of a command's run is refused once, and in two further runs every
-read and write moves one byte at most. A run in which memory was refused ends with status 10 or with the
+Each allocation, open, read and write of a command's run is refused once, and in a further run every read
+and write moves one byte at most. A run in which memory was refused ends with status 10 or with the
 command's own answer, one in which a file was refused with status 8, 10 or its own answer, one in which a
 write was refused with 9; and what was written is a prefix of the report that belongs to the answer. The
 status is 1 where a run ends otherwise.
