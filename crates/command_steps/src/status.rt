@@ -5,7 +5,8 @@ ghost use Rattle.command_steps.specs.Status.{status_of, code_of};
 /// Why a command was refused: there is no answer of the kind that was asked for.
 #[derive(Clone, Copy, Debug, PartialEq, Eq)]
 pub enum Reason {
-    /// The certificate isn't good, or the listed scheduler states aren't closed.
+    /// A certificate isn't good, listed scheduler states aren't closed, no tree of cuts was found, or
+    /// an event of a trace has a fault.
     No,
     /// The command words have no shape.
     Words,
@@ -13,11 +14,11 @@ pub enum Reason {
     Input,
     /// The rows have no greatest value.
     Unbounded,
-    /// The pivots or the entries of a table pass their limit.
+    /// The pivots, the entries of a table, the cuts or the events of a recording pass their limit.
     Budget,
     /// A number left the range that tables keep.
     Wide,
-    /// A task misused a service of the kernel.
+    /// A context misuses a service of the kernel in the run that was played.
     Misuse,
     /// The run that was played breaks a declaration.
     NotDeclared,
@@ -46,7 +47,8 @@ impl Reason {
 pub enum Status {
     /// The answer is what was asked for.
     Ok,
-    /// The certificate isn't good, or the listed scheduler states aren't closed.
+    /// A certificate isn't good, listed scheduler states aren't closed, no tree of cuts was found, or
+    /// an event of a trace has a fault.
     No,
     /// The command words have no shape.
     Words,
@@ -54,11 +56,11 @@ pub enum Status {
     Input,
     /// The rows have no greatest value.
     Unbounded,
-    /// The pivots or the entries of a table pass their limit.
+    /// The pivots, the entries of a table, the cuts or the events of a recording pass their limit.
     Budget,
     /// A number left the range that tables keep.
     Wide,
-    /// A task misused a service of the kernel.
+    /// A context misuses a service of the kernel in the run that was played.
     Misuse,
     /// A file could not be read.
     ReadFault,

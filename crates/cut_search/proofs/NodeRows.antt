@@ -109,7 +109,7 @@ padded_all d n rows = by d.rows rows.shape.rows_fit
         let rest = by rs (All-tail (λ row. length row ≡ length d.costs) r rs fit) in
         rw (count, rest) refl
 
--- the rows of the task over the costs of a node, and then the limits' rows
+-- the given rows over the costs of a node, and then the limits' rows
 pub node_rows-are : (d : RowsData) (limits : List Limits) (costs : List ℤ) (rows : RowsData) → AreRows d → costs ≡ d.costs ++ replicate (further_count limits) further_cost
     → rows ≡ record { costs = costs; rows = map (padded (length costs)) d.rows; rights = d.rights }
     → with_limit_rows rows (limit_rows (length d.costs) limits) ≡ node_rows d limits

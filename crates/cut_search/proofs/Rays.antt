@@ -1,4 +1,4 @@
--- A ray of the rows of any node has nothing at the further columns, since these are limited: the rest is a ray of the task's rows.
+-- A ray of the rows of any node has nothing at the further columns, since these are limited: the rest is a ray of the given rows.
 use Rattle.std.proofs.Common.{inl, inr, ◌≡◌, ◌≢◌, ℕ, zero, suc, ◌+◌, ◌<◌, ◌≤◌, ◌==◌, Bool, true, false, cond, List, [], ◌∷◌, ◌++◌, map, length, get_or, take, drop, replicate, ℤ, pos, ◌*ℤ◌, ◌≤ℤ◌, All, refl, sym, ap, subst, ◌∙◌, arith, drop-cons}
 use Rattle.std.proofs.lemmas.Bool.{cases_lt, eq-eqb, ne_eqb}
 use Rattle.std.proofs.lemmas.Int.{ints}
@@ -37,7 +37,7 @@ no_zeros : (rows : List (List ℤ)) → map (λ (row : List ℤ). row ++ []) row
 no_zeros [] = refl
 no_zeros (row ∷ rows) = rw (append-nil row, no_zeros rows) refl
 
--- the root has the rows of the task
+-- the root has the given rows
 pub root_rows : (d : RowsData) (limits : List Limits) → All IsFree limits → node_rows d limits ≡ d
 root_rows d limits free =
     ap (λ (more : List LimitRow). with_limit_rows (widened d (further_count limits)) more) (free_rows (length d.costs) limits free)
@@ -116,7 +116,7 @@ module _ (d : RowsData) (limits : List Limits) (u : List ℕ) (shape : IsShaped 
   padded_count : length (map (λ (row : List ℤ). row ++ replicate (further_count limits) (pos 0)) d.rows) ≡ length d.rows
   padded_count = length-map d.rows (λ (row : List ℤ). row ++ replicate (further_count limits) (pos 0))
 
-  -- a row of the task among the node's
+  -- a given row among the node's
   base_left : (i : ℕ) → i < length d.rows → left_side (node_rows d limits) i u ≡ left_side d i (take (length d.costs) u)
   base_left i h =
       let rows = map (λ (row : List ℤ). row ++ replicate (further_count limits) (pos 0)) d.rows in

@@ -17,7 +17,7 @@ abbrev pub low_sides : ℕ → Option ℕ → List Side
 low_sides column None = []
 low_sides column (Some high) = AtMost column high ∷ []
 
--- from the root on: take columns are cut one after the other
+-- from the root on: columns are cut one after the other
 abbrev pub sides_of : List Limits → List Side
 sides_of [] = []
 sides_of (l ∷ limits) = high_sides l.column l.low ++ low_sides l.column l.high ++ sides_of limits
@@ -54,7 +54,7 @@ side_multipliers (l ∷ limits) multipliers =
     ++ low_multipliers l.high (get_or multipliers 0 0)
     ++ side_multipliers limits (drop (row_count l) multipliers)
 
--- one for each row of the task, then one for each side
+-- one for each given row, then one for each side
 abbrev pub leaf_multipliers : RowsData → List Limits → List ℕ → List ℕ
 leaf_multipliers d limits multipliers = take (length d.rows) multipliers ++ side_multipliers limits (drop (length d.rows) multipliers)
 

@@ -1,6 +1,6 @@
--- The rows of a node of the search: those of a task, with what the cuts on the way to the node say of its take columns.
--- No right side is negative. A lower limit is said by a further column of great cost: it is at most the limit, and the
--- take column is at least as much.
+-- The rows of a node of the search: the given rows, with what the cuts on the way to the node say of the columns that may be
+-- cut. No right side is negative. A lower limit is said by a further column of great cost: it is at most the limit, and the
+-- column that was cut is at least as much.
 use Rattle.std.specs.Prelude.{◌≡◌, ℕ, ◌+◌, ◌==◌, cond, List, [], ◌∷◌, ◌++◌, map, length, replicate, ℤ, pos, negsuc, Option, Some, None, refl}
 use Rattle.whole_rows.specs.Rows.{RowsData, sample}
 use Rattle.whole_rows.specs.Terms.{row_of_terms}

@@ -13,7 +13,7 @@ use Rattle.cut_search.specs.Nodes.{node_rows}
 
 -- why no tree is found
 pub data Ending : Type 0 where
-  -- a leaf is above the bound, and each take column has one value there
+  -- a leaf is above the bound, and each column that may be cut has one value there
   NoTree : Ending
   -- a leaf is above the bound, and no cut is left
   Cuts : Ending
@@ -95,11 +95,11 @@ unfoldable pub searched : RowsData → ℕ → ℕ → ℕ → List Limits → R
 searched d bound zero left limits = judged d bound limits (λ place. Err Cuts)
 searched d bound (suc depth) left limits = judged d bound limits (cut_at (searched d bound depth) left limits)
 
--- at the root each take column is at least 0
+-- at the root each column that may be cut is at least 0
 abbrev pub free : ℕ → Limits
 free column = record { column = column; low = 0; high = None }
 
--- the search from the root on, over the rows of a task with these take columns, with at most so many cuts
+-- the search from the root on, over rows of which these columns may be cut, with at most so many cuts
 abbrev pub search_over : RowsData → List ℕ → ℕ → ℕ → Result Tree Ending
 search_over d columns bound cuts = searched d bound cuts cuts (map free columns)
 

@@ -56,7 +56,7 @@ pub(crate) fn judge(
     }
 }
 
-/// The optimum of the rows of the node. Those of the root are the rows of the task themselves.
+/// The optimum of the rows of the node. Those of the root are the given rows themselves.
 fn solved(alloc: Global, base: &Rows, limits: &[Limits]) -> Result<Optimum, SolveFault>
     requires { AreLimits base.now limits.now }
     ensures outcome { SaysOutcome (rows_in base.now limits.now) pivot_limit

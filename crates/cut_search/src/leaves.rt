@@ -24,7 +24,7 @@ pub(crate) fn sizes(alloc: Global, row: &Row) -> Result<Numbers, Memory>
     Ok(sizes)
 }
 
-/// The multipliers of the leaf, by those of the rows of the node: that many rows of the task, then
+/// The multipliers of the leaf, by those of the rows of the node: that many given rows, then
 /// those that say the limits.
 pub(crate) fn leaf_multipliers(
     alloc: Global,

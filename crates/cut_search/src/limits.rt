@@ -1,4 +1,4 @@
-//! The limits of a take column at a node of the search.
+//! The limits of a column that may be cut, at a node of the search.
 
 ghost use Rattle.std.specs.Prelude.{◌≡◌, ◌<◌, ◌+◌, ◌^◌, None, Some, IsTrue, ◌↔◌, All};
 ghost use Rattle.cut_search.specs.Search as words;

@@ -1,4 +1,4 @@
-//! The rows of a node: those of the task, and what the limits of its take columns say.
+//! The rows of a node: the given ones, and what the limits of the columns that may be cut say.
 
 ghost use Rattle.std.specs.Prelude.{◌≡◌, ◌<◌, ◌≤◌, ◌+◌, ◌++◌, [], ◌∷◌, All, IfOk, OnOk, length, map, replicate, negsuc, pos};
 ghost use Rattle.whole_rows.specs.Row.{AreInRange};
@@ -40,7 +40,7 @@ fn node_costs(alloc: Global, base: &Rows, limits: &[Limits]) -> Result<Row, Memo
     Ok(Row::from_vec(costs))
 }
 
-/// Adds the rows of the task, over more columns.
+/// Adds the given rows, over more columns.
 fn push_base(alloc: Global, base: &Rows, rows: &mut Rows) -> Result<(), Memory>
     requires width { length base.now.costs ≤ length rows.old.costs }
     requires no_rows { rows.old.rows ≡ [] }
@@ -170,7 +170,7 @@ fn push_below(alloc: Global, further: usize, column: usize, rows: &mut Rows) -> 
     rows.push_row(&terms, 0)
 }
 
-/// Adds the costs of the task's columns.
+/// Adds the costs of the given columns.
 fn push_costs(base: &Rows, costs: &mut Vec<i128>) -> Result<(), Memory>
     requires rows { AreRows base.now }
     requires none { costs.old.items ≡ [] }

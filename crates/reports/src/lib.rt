@@ -1,5 +1,5 @@
-//! All texts of the program: what its commands answer, and their refusals. A text that names a file
-//! that gave no bytes stands with the step that reads it.
+//! Texts that commands share: their answers and refusals. What one family of commands alone says
+//! stands in its crate, and what is said of a file that gave no bytes with the step that reads it.
 //!
 //!     let answer = yes_text(alloc, "T", 13)?;            // "yes T 13\n"
 //!     let refusal = oil_refusal(alloc, 2, kind)?;        // "oil line 2 Expected\n"

@@ -2,7 +2,7 @@
 use Rattle.std.specs.Prelude.{ℕ, ◌<◌, ◌-◌, List, ◌++◌, length, replicate, ℤ, pos, All}
 use Rattle.cut_search.specs.declared.limits.Limits.{Limits}
 
--- each take column is below this number
+-- each column that may be cut is below this number
 abbrev pub LieWithin : ℕ → List Limits → Type 0
 LieWithin columns limits = All (λ l. l.column < columns) limits
 
