@@ -49,5 +49,3 @@ fn out_of_memory(_refused: Memory) -> io::Error {
 
 #[cfg(test)]
 mod tests;
-#[cfg(test)]
-mod tests_damaged;
