@@ -16,7 +16,7 @@ use Rattle.command_steps.specs.declared.halt.Halt.{Halt}
 use Rattle.command_steps.specs.declared.halt.Halt.TheVariants.{Refused, Failed, Memory}
 use Rattle.command_steps.specs.Refusals.{read_text}
 use Rattle.command_steps.specs.Steps.{Step}
-use Rattle.command_steps.specs.Reports.{Writes, IsWriteCall, Puts, Ends, Wrote, ended_by}
+use Rattle.command_steps.specs.Reports.{Writes, IsWriteCall, Puts, WritesText, Ends, Wrote, ended_by}
 use Rattle.command_steps.specs.Outside.{NoneFailed, Leaves, ReadCause, text_of, Shows}
 use Rattle.command_steps.specs.Running.{Ran}
 use Rattle.command_steps.proofs.Honest.{IsHonest, later_counts, same_files}
@@ -235,3 +235,22 @@ ok_answered writes (Err (Failed name)) before is after (inl wrote) ok =
     let e : status.ReadFault ≡ status.Ok = meant_ok writes (read_text name) status.ReadFault before is after wrote ok in cc
 ok_answered writes (Err (Failed name)) before is after (inr wrote) ok = cc (wrote.0, ok)
 ok_answered writes (Err Memory) before is after wrote ok = cc (wrote.0, ok)
+
+-- and that text went out whole
+wrote_whole : {O : Type 0} (writes : Writes O) (text : List ℕ) (before : O) (is : Status) (after : O) (given : Result (Unit {0}) SinkFault)
+    → WritesText writes before text given after → is ≡ ended_by status.Ok given → is ≡ status.Ok
+    → WritesText writes before text (Ok tt) after
+wrote_whole writes text before is after (Ok tt) written ended ok = written
+wrote_whole writes text before is after (Err sink.Failed) written ended ok = cc (ended, ok)
+wrote_whole writes text before is after (Err sink.Memory) written ended ok = cc (ended, ok)
+
+pub ok_written : {O : Type 0} (writes : Writes O) (answered : Result (List ℕ) Halt) (before : O) (is : Status) (after : O)
+    → Wrote writes answered before is after → is ≡ status.Ok
+    → WritesText writes before (text_of answered) (Ok tt) after
+ok_written writes (Ok text) before is after wrote ok = wrote_whole writes text before is after wrote.0 wrote.1 wrote.2 ok
+ok_written writes (Err (Refused refusal)) before is after wrote ok =
+    absurd (not_ok_reason refusal.reason (meant_ok writes refusal.text (status_of refusal.reason) before is after wrote ok))
+ok_written writes (Err (Failed name)) before is after (inl wrote) ok =
+    let e : status.ReadFault ≡ status.Ok = meant_ok writes (read_text name) status.ReadFault before is after wrote ok in cc
+ok_written writes (Err (Failed name)) before is after (inr wrote) ok = cc (wrote.0, ok)
+ok_written writes (Err Memory) before is after wrote ok = cc (wrote.0, ok)

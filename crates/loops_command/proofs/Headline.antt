@@ -4,13 +4,20 @@ use Rattle.wcet_io.specs.Files.{FilesOutside}
 use Rattle.elf_image.specs.Image.{ImageData}
 use Rattle.oil_model.specs.declared.system.System.{System}
 use Rattle.timing_file.specs.declared.timing.Timing.{Timing}
+use Rattle.osek_machine.specs.Declarations.{IsDeclared}
+use Rattle.osek_machine.specs.Events.{Event}
+use Rattle.osek_machine.specs.Runs.{IsRun}
+use Rattle.osek_machine.specs.State.{MachineState}
 use Rattle.wcet_atomic_blocks.specs.Plants.{PlantData, IsPlant, IsPlantOf}
 use Rattle.abstract_sched.specs.declared.states.AbsState.{AbsState}
+use Rattle.scheduler_moves.specs.Closed.{IsClosed}
+use Rattle.shadow_runs.proofs.Covering.{nothing_is_misused}
 use Rattle.row_build.specs.Rows.{rows_of}
 use Rattle.bound_solver.specs.Bounds.{solved_rows, bound_outcome}
 use Rattle.counted_loops.specs.Bounds.{found_plant, BoundsActivationsBut}
 use Rattle.counted_loops.specs.Counted.{AreFound}
-use Rattle.counted_loops.proofs.Keeping.{plant_stays, found_timings_bound}
+use Rattle.counted_loops.specs.Found.{found_timing, IsDeclaredBut}
+use Rattle.counted_loops.proofs.Keeping.{plant_stays, code_keeps_found, found_timings_bound}
 use Rattle.command_steps.specs.Steps.{Calls, IsCall, Judged}
 use Rattle.command_steps.proofs.Given.{then_ok}
 use Rattle.reports.specs.Solved.{bound_text}
@@ -27,15 +34,23 @@ use Rattle.bound_commands.proofs.Lasting.{closed_for, optimum_said}
 use Rattle.bound_commands.proofs.Saying.{said_bounds}
 use Rattle.loops_command.specs.declared.found_loops.FoundLoops.{FoundLoops}
 use Rattle.loops_command.specs.Loops.{found_analysed, loop_lines, AreFoundLoops, HasFound, AnswersLoops, FoundOn, LoopsOn, Loops}
-use Rattle.loops_command.specs.Meaning.{LastsAtMostBut, BoundsByCode}
+use Rattle.loops_command.specs.Meaning.{AreKept, LastsAtMostBut, BoundsByCode}
 
 -- ---- The bound
 
--- the line of the task bounds it in every run that keeps what is declared but for counted loops
+-- the line of the task bounds it in every run that keeps what is declared but for counted loops, whose found bounds the run keeps
 record IsBounded (name line : List ℕ) (analysed : Analysed) (found : List (Option ℕ)) : Type 0 where
   bound : ℕ
   line_is : line ≡ bound_text name bound
+  kept : AreKept analysed.plant.image analysed.plant.system analysed.plant.timing found
   lasts : BoundsActivationsBut analysed.plant found analysed.task bound
+
+found_are_kept : (plant : PlantData) (found : List (Option ℕ)) (states : List AbsState) → IsPlant plant
+    → AreFound plant.image plant.system plant.flow plant.timing.loops found → IsClosed (found_plant plant found) states
+    → AreKept plant.image plant.system plant.timing found
+found_are_kept plant found states belongs are closed mode events state run kept =
+    code_keeps_found plant found mode events state belongs are run (nothing_is_misused (found_plant plant found) states mode events state
+    (record { belongs = plant_stays plant found belongs are; closed = closed; run = run; pairs = kept.returns })) kept
 
 is_bounded : (name line : List ℕ) (analysed : Analysed) (found : List (Option ℕ)) (listed : List AbsState) → IsPlant analysed.plant
     → analysed.task < length analysed.plant.system.tasks
@@ -52,6 +67,7 @@ is_bounded name line analysed found listed belongs exists are closed says =
     record {
       bound = bounds.0;
       line_is = bounds.1;
+      kept = found_are_kept analysed.plant found listed belongs are closed.closed;
       lasts = found_timings_bound analysed.plant found listed task bounds.0 belongs are closed.closed bounds.2;
     }
 
@@ -67,6 +83,13 @@ lasts_but_as image system timing plant found task bound of bounds =
     (subst (λ (s : System). LastsAtMostBut plant.image s timing found task bound) of.system_is
     (subst (λ (t : Timing). LastsAtMostBut plant.image plant.system t found task bound) of.timing_is bounds))
 
+kept_as : (image : ImageData) (system : System) (timing : Timing) (plant : PlantData) (found : List (Option ℕ))
+    → IsPlantOf image system timing plant → AreKept plant.image plant.system plant.timing found → AreKept image system timing found
+kept_as image system timing plant found of kept =
+    subst (λ (i : ImageData). AreKept i system timing found) of.image_is
+    (subst (λ (s : System). AreKept plant.image s timing found) of.system_is
+    (subst (λ (t : Timing). AreKept plant.image plant.system t found) of.timing_is kept))
+
 means : (name text line : List ℕ) (analysed : Analysed) (loops : FoundLoops) → (made : AreFoundLoops analysed loops) → IsBounded name line analysed made.found
     → text ≡ loops.lines ++ line → (oil elf timing : List ℕ) → AreJudged (judged_task name) analysed oil elf timing → BoundsByCode name text oil elf timing
 means name text line analysed loops made bounded is oil elf timing judged = record {
@@ -77,6 +100,7 @@ means name text line analysed loops made bounded is oil elf timing judged = reco
   bound = bounded.bound;
   told = is ∙ (ap (λ t. t ++ line) (made.lines_are ∙ ap (λ (t : Timing). loop_lines t.loops made.found) judged.fact.1.timing_is)
       ∙ ap (λ t. loop_lines judged.declared.times.loops made.found ++ t) bounded.line_is);
+  kept = kept_as judged.declared.image judged.declared.system judged.declared.times analysed.plant made.found judged.fact.1 bounded.kept;
   lasts = lasts_but_as judged.declared.image judged.declared.system judged.declared.times analysed.plant made.found analysed.task bounded.bound judged.fact.1
       bounded.lasts;
 }

@@ -9,7 +9,7 @@ use Rattle.command_steps.specs.declared.halt.Halt.TheVariants as halt
 use Rattle.command_steps.specs.Steps.{Calls, IsCall}
 use Rattle.command_steps.specs.Reports.{Writes, IsWriteCall, Wrote}
 use Rattle.command_steps.specs.Outside.{Appends, Shows, text_of}
-use Rattle.command_steps.proofs.Running.{ok_answered, shows}
+use Rattle.command_steps.proofs.Running.{ok_answered, ok_written, shows}
 use Rattle.syswcet.specs.declared.words.Command.{Command}
 use Rattle.syswcet.specs.declared.words.Command.TheVariants as command
 use Rattle.bound_commands.specs.All.{All}
@@ -67,13 +67,14 @@ pub means : {F O : Type 0} (outside : F → FilesOutside) (reads : Calls F) (sho
     (start after : F) (sink_before sink_after : O) (answered : Result (List ℕ) Halt) (is : Status)
     → StepsOf (IsCall outside reads) command start answered after ⊎ ((after ≡ start) × (answered ≡ Err halt.Memory))
     → Wrote (IsWriteCall shown writes) answered sink_before is sink_after → is ≡ status.Ok
-    → Means outside reads start command (shown sink_before) (shown sink_after)
+    → Means outside reads start command shown writes sink_before sink_after
 means outside reads shown writes command start after sink_before sink_after answered is steps wrote ok =
     let gave : answered ≡ Ok (text_of answered) = ok_answered (IsWriteCall shown writes) answered sink_before is sink_after wrote ok in
     let tells : Shows (text_of answered) is (shown sink_before) (shown sink_after) = shows shown writes answered sink_before is sink_after wrote in
-    let whole = subst (λ (s : Status). Appends s (shown sink_before).written (text_of answered) (shown sink_after).written) ok tells.appends in (
-      text_of answered,
-      whole,
-      truly outside reads start command (text_of answered) after
-          (stepped (IsCall outside reads) command start answered (text_of answered) after gave steps),
-    )
+    record {
+      text = text_of answered;
+      written = ok_written (IsWriteCall shown writes) answered sink_before is sink_after wrote ok;
+      told = subst (λ (s : Status). Appends s (shown sink_before).written (text_of answered) (shown sink_after).written) ok tells.appends;
+      says = truly outside reads start command (text_of answered) after
+          (stepped (IsCall outside reads) command start answered (text_of answered) after gave steps);
+    }

@@ -1,11 +1,12 @@
 -- The headline: what it means that a command ended with status 0. Each command has one equation. Of a bound it says: in every run
 -- of the OSEK machine over the system, the image and the timing that the files are, which keeps what is declared (the distances of
 -- arrivals, the bounds of loops, paired returns, code that isn't written and the costs of steps), no activation of the task lasts
--- longer, ended or not. Nothing of the analysis stands here.
-use Rattle.std.specs.Prelude.{◌≡◌, ℕ, List, Option, Some, None}
+-- longer, ended or not: nothing of the analysis stands in that.
+use Rattle.std.specs.Prelude.{◌≡◌, ℕ, List, Option, Some, None, Ok}
 use Rattle.wcet_io.specs.Files.{FilesOutside}
 use Rattle.wcet_io.specs.Sink.{SinkOutside, appended}
 use Rattle.command_steps.specs.Steps.{Calls}
+use Rattle.command_steps.specs.Reports.{Writes, IsWriteCall, WritesText}
 use Rattle.reports.specs.Verdicts.{yes_text}
 use Rattle.reports.specs.Solved.{bound_text}
 use Rattle.inputs.specs.Meaning.{AreBytesOf, OfSystem, BoundsSubject}
@@ -42,10 +43,13 @@ SaysTruly Bytes (Some (command.SplitFind oil elf timing task states bound cuts))
 SaysTruly Bytes (Some (command.TraceRecord oil elf timing schedule)) text =
     (s : List ℕ) × Bytes schedule s × OfSystem Bytes oil elf timing (RecordsRun s text)
 SaysTruly Bytes (Some (command.TraceJudge oil elf timing task certificate trace)) text =
-    (b : List ℕ) × Bytes trace b × OfSystem Bytes oil elf timing (JudgesFit task b text)
+    (c : List ℕ) × Bytes certificate c × ((b : List ℕ) × Bytes trace b × OfSystem Bytes oil elf timing (JudgesFit task c b text))
 SaysTruly Bytes (Some (command.Demo seed count)) text = BoundsDemo seed count text
 
--- A text was written whole, and it says what the command is for.
-abbrev pub Means : {F : Type 0} → (F → FilesOutside) → Calls F → F → Option Command → SinkOutside → SinkOutside → Type 0
-Means outside reads start command before after =
-    (text : List ℕ) × (after.written ≡ appended before.written text) × SaysTruly (AreBytesOf outside reads start) command text
+-- Calls of `write` took a text whole, so that it was appended where the sink tells what it holds, and it says what the command is for.
+pub record Means {F O : Type 0} (outside : F → FilesOutside) (reads : Calls F) (start : F) (command : Option Command)
+    (shown : O → SinkOutside) (writes : Writes O) (before after : O) : Type 0 where
+  pub text : List ℕ
+  pub written : WritesText (IsWriteCall shown writes) before text (Ok tt) after
+  pub told : (shown after).written ≡ appended (shown before).written text
+  pub says : SaysTruly (AreBytesOf outside reads start) command text

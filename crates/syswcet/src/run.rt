@@ -30,7 +30,7 @@ pub fn run<F: Files, O: Sink>(alloc: Global, words: &Words, files: &mut F, out: 
         files.old files.new out.old out.new result }
     // Where it ended with Ok, what was written means what the command is for.
     ensures headline { result ≡ Status.Ok → Means F.outside F.reads files.old (command_of words.now)
-        (O.outside out.old) (O.outside out.new) }
+        O.outside O.writes out.old out.new }
 {
     let answered = answer(alloc, words, files);
     report(alloc, answered, out)

@@ -1,40 +1,29 @@
 -- From the steps of each command to what its text means.
-use Rattle.std.proofs.Common.{◌≡◌, ℕ, List, [], ◌∷◌, Ok, refl, sym, ◌∙◌, ap, subst}
+use Rattle.std.proofs.Common.{◌≡◌, ℕ, List, [], ◌∷◌, Ok, refl, sym, ◌∙◌, subst}
 use Rattle.wcet_io.specs.Files.{FilesOutside}
 use Rattle.json_fields.specs.Files.{IsGiven}
-use Rattle.elf_image.specs.Image.{ImageData}
-use Rattle.oil_model.specs.declared.system.System.{System}
-use Rattle.timing_file.specs.declared.timing.Timing.{Timing}
-use Rattle.osek_machine.specs.Declarations.{IsDeclared}
-use Rattle.osek_machine.specs.Events.{Event}
-use Rattle.osek_machine.specs.Runs.{IsRun}
-use Rattle.osek_machine.specs.State.{MachineState}
 use Rattle.wcet_atomic_blocks.specs.Plants.{PlantData, IsPlantOf}
 use Rattle.scheduler_moves.specs.Moves.{rules_of}
 use Rattle.certificate.specs.declared.cert.Cert.{Cert}
+use Rattle.certificate.specs.declared.fault.CertKind.TheVariants as cert_kinds
+use Rattle.certificate.specs.Certificate.{cert_in}
 use Rattle.certificate.specs.Lawful.{IsLawful}
 use Rattle.activation_windows.specs.Bounds.{BoundsActivations}
 use Rattle.activation_windows.proofs.Bounding.{good_multipliers_bound_activations}
 use Rattle.bound_checker.specs.Good.{IsGood}
-use Rattle.replay.specs.declared.fault.ScheduleKind.TheVariants as schedule_kinds
-use Rattle.replay.specs.declared.schedule.Schedule.{Schedule}
-use Rattle.replay.specs.Schedule.{schedule_in}
 use Rattle.trace_check.specs.declared.fault.TraceKind.TheVariants as trace_kinds
 use Rattle.trace_check.specs.declared.trace.Trace.{Trace}
 use Rattle.trace_check.specs.declared.verdict.TraceVerdict.{TraceVerdict}
 use Rattle.trace_check.specs.declared.verdict.TraceVerdict.TheVariants.{Fits, NotAWalk, TooClose, OverBound}
-use Rattle.trace_check.specs.Text.{trace_in, trace_text}
+use Rattle.trace_check.specs.Text.{trace_in}
 use Rattle.trace_check.specs.Verdict.{verdict_of}
-use Rattle.trace_record.specs.Recorded.{PlaysTo, Records}
-use Rattle.trace_record.specs.Recording.{recording_of}
-use Rattle.trace_record.proofs.Playing.{played_run}
 use Rattle.command_steps.specs.Steps.{Calls, IsCall, Judged}
 use Rattle.command_steps.proofs.Given.{then_ok, file_ok}
 use Rattle.inputs.specs.declared.subjects.Analysed.{Analysed}
 use Rattle.inputs.specs.declared.subjects.Subject.{Subject}
 use Rattle.inputs.specs.declared.subjects.Subject.TheVariants.{Named}
 use Rattle.inputs.specs.Inputs.{states_limit}
-use Rattle.inputs.specs.Meaning.{AreBytesOf, AreDeclared, OfSystem}
+use Rattle.inputs.specs.Meaning.{AreBytesOf, OfSystem}
 use Rattle.inputs.specs.Plants.{PlantOf}
 use Rattle.inputs.specs.Schedules.{schedule_limit, HasSchedule, ScheduleFile}
 use Rattle.inputs.specs.States.{CertificateFile, HasCertificate}
@@ -49,44 +38,7 @@ use Rattle.trace_commands.specs.Record.{HasRecorded, RecordOn, TraceRecord}
 use Rattle.trace_commands.specs.Texts.{fits_text, saying}
 use Rattle.trace_commands.proofs.Honest.{good_honest}
 
--- ---- what is said of a plant's parts holds of what they are
-
-run_of : (image : ImageData) (system : System) (times : Timing) (plant : PlantData) (mode : ℕ) (events : List Event) (state : MachineState)
-    → IsPlantOf image system times plant → IsRun plant.image plant.system mode events state → IsRun image system mode events state
-run_of image system times plant mode events state of run =
-    subst (λ (i : ImageData). IsRun i system mode events state) of.image_is (subst (λ (s : System). IsRun plant.image s mode events state) of.system_is run)
-
-declared_of : (image : ImageData) (system : System) (times : Timing) (plant : PlantData) (events : List Event)
-    → IsPlantOf image system times plant → IsDeclared plant.image plant.system plant.timing events → IsDeclared image system times events
-declared_of image system times plant events of declared =
-    subst (λ (i : ImageData). IsDeclared i system times events) of.image_is
-    (subst (λ (s : System). IsDeclared plant.image s times events) of.system_is
-    (subst (λ (t : Timing). IsDeclared plant.image plant.system t events) of.timing_is declared))
-
 -- ---- trace record
-
-records_run : (s text o e t : List ℕ) (declared : AreDeclared o e t) (plant : PlantData) (listed : Schedule)
-    → IsPlantOf declared.image declared.system declared.times plant
-    → IsGiven schedule_kinds.Json (schedule_in plant.system) s (Ok listed) → HasRecorded plant listed (Ok text) → RecordsRun s text o e t
-records_run s text o e t declared plant listed of given says =
-    let records : Records plant listed says.trace = says.records in
-    let plays : PlaysTo plant listed records.events = records.plays in
-    let told : text ≡ trace_text plant.system (recording_of plant.system listed.mode records.events) =
-    says.told ∙ ap (trace_text plant.system) records.told in
-    let again : IsGiven trace_kinds.Json (trace_in plant.system) text (Ok (recording_of plant.system listed.mode records.events)) =
-    subst (λ (trace : Trace). IsGiven trace_kinds.Json (trace_in plant.system) text (Ok trace)) records.told says.again in
-    record {
-      declared = declared;
-      listed = listed;
-      listed_is = subst (λ (y : System). IsGiven schedule_kinds.Json (schedule_in y) s (Ok listed)) of.system_is given;
-      events = records.events;
-      state = plays.state;
-      run = run_of declared.image declared.system declared.times plant listed.mode records.events plays.state of
-          (played_run plant.image plant.system plant.timing listed records.events plays.state plays.played);
-      keeps = declared_of declared.image declared.system declared.times plant records.events of plays.declared;
-      told = subst (λ (y : System). text ≡ trace_text y (recording_of y listed.mode records.events)) of.system_is told;
-      again = subst (λ (y : System). IsGiven trace_kinds.Json (trace_in y) text (Ok (recording_of y listed.mode records.events))) of.system_is again;
-    }
 
 pub trace_record_says : {F : Type 0} (outside : F → FilesOutside) (reads : Calls F) (start : F) (oil elf timing schedule text : List ℕ) (after : F)
     → TraceRecord (IsCall outside reads) oil elf timing schedule start (Ok text) after
@@ -102,7 +54,14 @@ trace_record_says outside reads start oil elf timing schedule text after steps =
       was.bytes,
       later_bytes outside reads start one.1 schedule schedule_limit (HasSchedule plant) two.0 told was,
       of_system (AreBytesOf outside reads start) oil elf timing (DeclarePlant plant) (RecordsRun was.bytes text)
-          (λ o e t declares. records_run was.bytes text o e t declares.declared plant two.0 declares.plant_is was.fact two.3.1)
+          (λ o e t declares. record {
+            declared = declares.declared;
+            plant = plant;
+            plant_is = declares.plant_is;
+            listed = two.0;
+            listed_is = was.fact;
+            says = two.3.1;
+          })
           (plant_declared outside reads start oil elf timing plant one.1 one.2),
     )
 
@@ -118,25 +77,29 @@ said_fits (NotAWalk event) text e = absurd cc
 said_fits (TooClose event) text e = absurd cc
 said_fits (OverBound event) text e = absurd cc
 
--- what is known of a certificate that is good
-record IsGoodCert (plant : PlantData) (task : ℕ) (cert : Cert) : Type 0 where
+-- what is known of a certificate that is good, of its bytes
+record IsGoodCert (plant : PlantData) (task : ℕ) (name bytes : List ℕ) (cert : Cert) : Type 0 where
+  given : IsGiven cert_kinds.Json (cert_in (rules_of plant) task name) bytes (Ok cert)
   lawful : IsLawful (rules_of plant) task cert
   good : IsGood plant task cert
 
-good_cert : (plant : PlantData) (task : ℕ) (read cert : Cert) → cert ≡ read → IsLawful (rules_of plant) task read → IsGood plant task read
-    → IsGoodCert plant task cert
-good_cert plant task read cert same lawful good = subst (IsGoodCert plant task) (sym same) (record { lawful = lawful; good = good })
+good_cert : (plant : PlantData) (task : ℕ) (name bytes : List ℕ) (read cert : Cert) → cert ≡ read
+    → IsGiven cert_kinds.Json (cert_in (rules_of plant) task name) bytes (Ok read) → IsGood plant task read → IsGoodCert plant task name bytes cert
+good_cert plant task name bytes read cert same given good =
+    subst (IsGoodCert plant task name bytes) (sym same)
+    (record { given = given; lawful = cert_lawful plant task name bytes read given; good = good })
 
 -- what is known where the steps have come to the verdict
-record IsJudged (analysed : Analysed) (cert : Cert) (bytes : List ℕ) (recording : Trace) (text : List ℕ) : Type 0 where
+record IsJudged (analysed : Analysed) (name : List ℕ) (cert : Cert) (certificate bytes : List ℕ) (recording : Trace) (text : List ℕ) : Type 0 where
+  good : IsGoodCert analysed.plant analysed.task name certificate cert
   bounds : BoundsActivations analysed.plant analysed.task cert.bound
-  task_is : cert.task ≡ analysed.task
   given : IsGiven trace_kinds.Json (trace_in analysed.plant.system) bytes (Ok recording)
   says : Ok text ≡ saying (verdict_of analysed.plant cert.task cert.bound recording)
 
-judges_fit : (name bytes text o e t : List ℕ) (analysed : Analysed) (cert : Cert) (recording : Trace)
-    → IsJudged analysed cert bytes recording text → AreJudged (judged_task name) analysed o e t → JudgesFit name bytes text o e t
-judges_fit name bytes text o e t analysed cert recording is judged =
+judges_fit : (name certificate bytes text o e t : List ℕ) (analysed : Analysed) (cert : Cert) (recording : Trace)
+    → IsJudged analysed name cert certificate bytes recording text → AreJudged (judged_task name) analysed o e t
+    → JudgesFit name certificate bytes text o e t
+judges_fit name certificate bytes text o e t analysed cert recording is judged =
     let declared = judged.declared in
     let of : IsPlantOf declared.image declared.system declared.times analysed.plant = judged.fact.1 in
     let fits = said_fits (verdict_of analysed.plant cert.task cert.bound recording) text is.says in
@@ -144,20 +107,22 @@ judges_fit name bytes text o e t analysed cert recording is judged =
       declared = declared;
       task = analysed.task;
       named = judged.fact.0;
-      bound = cert.bound;
-      lasts = lasts_as declared.image declared.system declared.times analysed.plant analysed.task cert.bound of is.bounds;
       plant = analysed.plant;
       plant_is = of;
+      cert = cert;
+      cert_is = is.good.given;
+      lasts = lasts_as declared.image declared.system declared.times analysed.plant analysed.task cert.bound of is.bounds;
       recording = recording;
-      recording_is = subst (λ (y : System). IsGiven trace_kinds.Json (trace_in y) bytes (Ok recording)) of.system_is is.given;
-      fits = subst (λ (n : ℕ). verdict_of analysed.plant n cert.bound recording ≡ Fits) is.task_is fits.0;
+      recording_is = is.given;
+      fits = subst (λ (n : ℕ). verdict_of analysed.plant n cert.bound recording ≡ Fits) is.good.lawful.for_task fits.0;
       told = fits.1;
     }
 
 pub trace_judge_says : {F : Type 0} (outside : F → FilesOutside) (reads : Calls F) (start : F) (oil elf timing task certificate trace text : List ℕ)
     (after : F)
     → TraceJudge (IsCall outside reads) oil elf timing task certificate trace start (Ok text) after
-    → (b : List ℕ) × AreBytesOf outside reads start trace b × OfSystem (AreBytesOf outside reads start) oil elf timing (JudgesFit task b text)
+    → (c : List ℕ) × AreBytesOf outside reads start certificate c
+    × ((b : List ℕ) × AreBytesOf outside reads start trace b × OfSystem (AreBytesOf outside reads start) oil elf timing (JudgesFit task c b text))
 trace_judge_says outside reads start oil elf timing task certificate trace text after steps =
     let calls = IsCall outside reads in
     let subject : Subject = Named oil elf timing task in
@@ -171,8 +136,8 @@ trace_judge_says outside reads start oil elf timing task certificate trace text 
     let cert : Cert = two.0 in
     let read = then_ok (CertificateFile calls certificate task analysed) (λ c. Judged (HasGood analysed c)) one.1 cert two.1 two.2 in
     let was_cert = file_ok calls certificate states_limit (HasCertificate analysed task) one.1 read.0 read.1 read.2 in
-    let good : IsGoodCert plant analysed.task cert =
-    good_cert plant analysed.task read.0 cert read.3.1.0 (cert_lawful plant analysed.task task was_cert.bytes read.0 was_cert.fact) read.3.1.1 in
+    let good : IsGoodCert plant analysed.task task was_cert.bytes cert =
+    good_cert plant analysed.task task was_cert.bytes read.0 cert read.3.1.0 was_cert.fact read.3.1.1 in
     let three = then_ok (TraceFile calls trace plant) (λ recording. Judged (HasJudged plant cert recording)) two.1 text after two.3 in
     let was = file_ok calls trace trace_limit (HasTrace plant) two.1 three.0 three.1 three.2 in
     let told_one : (outside one.1).told ≡ (outside start).told =
@@ -180,15 +145,19 @@ trace_judge_says outside reads start oil elf timing task certificate trace text 
     let told_two : (outside two.1).told ≡ (outside start).told =
     ((good_honest outside reads names certificate task analysed (fourth oil elf timing certificate (trace ∷ []))).leaves
     one.1 (Ok cert) two.1 two.2).goes_on.kept ∙ told_one in (
-      was.bytes,
-      later_bytes outside reads start two.1 trace trace_limit (HasTrace plant) three.0 told_two was,
-      of_system (AreBytesOf outside reads start) oil elf timing (AreJudged (judged_task task) analysed) (JudgesFit task was.bytes text)
-          (λ o e t judged. judges_fit task was.bytes text o e t analysed cert three.0 (record {
-            bounds = good_multipliers_bound_activations plant cert.states analysed.task cert.multipliers cert.denominator cert.bound
-                (record { belongs = is.belongs; closed = good.good.closed; once = good.lawful.states.once; exists = is.exists }) good.good.good;
-            task_is = good.lawful.for_task;
-            given = was.fact;
-            says = three.3.1;
-          }) judged)
-          (judged_three outside reads start oil elf timing (judged_task task) analysed one.1 one.2),
+      was_cert.bytes,
+      later_bytes outside reads start one.1 certificate states_limit (HasCertificate analysed task) read.0 told_one was_cert,
+      (
+        was.bytes,
+        later_bytes outside reads start two.1 trace trace_limit (HasTrace plant) three.0 told_two was,
+        of_system (AreBytesOf outside reads start) oil elf timing (AreJudged (judged_task task) analysed) (JudgesFit task was_cert.bytes was.bytes text)
+            (λ o e t judged. judges_fit task was_cert.bytes was.bytes text o e t analysed cert three.0 (record {
+              good = good;
+              bounds = good_multipliers_bound_activations plant cert.states analysed.task cert.multipliers cert.denominator cert.bound
+                  (record { belongs = is.belongs; closed = good.good.closed; once = good.lawful.states.once; exists = is.exists }) good.good.good;
+              given = was.fact;
+              says = three.3.1;
+            }) judged)
+            (judged_three outside reads start oil elf timing (judged_task task) analysed one.1 one.2),
+      ),
     )

@@ -1,5 +1,5 @@
 -- What `trace judge` says of the recording of a declared run.
-use Rattle.std.proofs.Common.{◌≡◌, ℕ, List, Result, Ok, Err, inl, inr, sym, ◌∙◌, ap, subst}
+use Rattle.std.proofs.Common.{◌≡◌, ◌⊎◌, ℕ, List, Result, Ok, Err, inl, inr, sym, ◌∙◌, ap, subst}
 use Rattle.std.proofs.lemmas.Option.{same_Some}
 use Rattle.json_fields.specs.Files.{IsGiven}
 use Rattle.serde_json.specs.Data.{Data}
@@ -18,7 +18,7 @@ use Rattle.command_steps.specs.declared.halt.Halt.TheVariants.{Refused, Failed, 
 use Rattle.command_steps.specs.Steps.{Calls, Reading, Says}
 use Rattle.command_steps.proofs.Given.{file_ok}
 use Rattle.trace_commands.specs.Judge.{HasJudged, HasTrace, TraceFile, trace_limit}
-use Rattle.trace_commands.specs.Laws.{IsGoodFor, RecordsDeclared, RecordingsAreSaidToFit, SaysFits}
+use Rattle.trace_commands.specs.Laws.{IsGoodFor, RecordsDeclared, RecordingsAreSaidToFit, SaysFits, SaysUnread}
 use Rattle.trace_commands.specs.Texts.{saying}
 
 -- ---- What a format makes of bytes is one alone
@@ -61,34 +61,50 @@ never_refused plant bytes kind records given =
 
 -- ---- The steps
 
-says_fits : (name : List ℕ) (plant : PlantData) (cert : Cert) (trace : Trace) (given : Result (List ℕ) Halt)
-    → verdict_of plant cert.task cert.bound trace ≡ Fits → Says (HasJudged plant cert trace) given → SaysFits name given
-says_fits name plant cert trace (Ok text) is says = let said : Ok text ≡ saying Fits = says ∙ ap saying is in cc
-says_fits name plant cert trace (Err (Refused refusal)) is says = let said : Err refusal ≡ saying Fits = says ∙ ap saying is in absurd cc
-says_fits name plant cert trace (Err (Failed failed)) is says = absurd says
-says_fits name plant cert trace (Err Memory) is says = tt
+says_fits : (plant : PlantData) (cert : Cert) (trace : Trace) (given : Result (List ℕ) Halt)
+    → verdict_of plant cert.task cert.bound trace ≡ Fits → Says (HasJudged plant cert trace) given → SaysFits given
+says_fits plant cert trace (Ok text) is says = let said : Ok text ≡ saying Fits = says ∙ ap saying is in cc
+says_fits plant cert trace (Err (Refused refusal)) is says = let said : Err refusal ≡ saying Fits = says ∙ ap saying is in absurd cc
+says_fits plant cert trace (Err (Failed failed)) is says = absurd says
+says_fits plant cert trace (Err Memory) is says = tt
 
--- where the recording isn't read
+-- what is said of bytes that were read, where they are no trace
+refused_bytes : (plant : PlantData) (bytes : List ℕ) (halt : Halt) → Says (HasTrace plant bytes) (Err halt) → RecordsDeclared plant bytes
+    → SaysFits (Err halt)
+refused_bytes plant bytes (Refused refusal) says records = absurd (never_refused plant bytes says.0 records says.1)
+refused_bytes plant bytes (Failed failed) says records = absurd says
+refused_bytes plant bytes Memory says records = tt
+
+-- what is said where none were read
+unread : {F : Type 0} (calls : Calls F) (name : List ℕ) (before : F) (halt : Halt) (after : F)
+    → Reading calls name trace_limit before (Err halt) after → SaysUnread name (Err halt)
+unread calls name before (Refused refusal) after reading = reading.2
+unread calls name before (Failed failed) after reading = reading.1
+unread calls name before Memory after reading = tt
+
+abbrev IsSaid : {F : Type 0} → Calls F → PlantData → List ℕ → F → Result (List ℕ) Halt → Type 0
+IsSaid {F} calls plant name before given =
+    ((bytes : List ℕ) × (then : F) × calls before name trace_limit (Ok bytes) then × (RecordsDeclared plant bytes → SaysFits given))
+    ⊎ SaysUnread name given
+
 read_fails : {F : Type 0} (calls : Calls F) (name : List ℕ) (plant : PlantData) (before : F) (halt : Halt) (after : F)
-    → ((bytes : List ℕ) (then : F) → calls before name trace_limit (Ok bytes) then → RecordsDeclared plant bytes)
-    → TraceFile calls name plant before (Err halt) after → SaysFits name (Err halt)
-read_fails calls name plant before (Refused refusal) after records (inl is) =
-    let given = is.3.1 in absurd (never_refused plant is.0 given.0 (records is.0 is.1 is.2) given.1)
-read_fails calls name plant before (Failed failed) after records (inl is) = tt
-read_fails calls name plant before Memory after records (inl is) = tt
-read_fails calls name plant before halt after records (inr is) = ended halt is.0 is.1 is.2
+    → TraceFile calls name plant before (Err halt) after → IsSaid calls plant name before (Err halt)
+read_fails calls name plant before halt after (inl is) = inl (is.0, is.1, is.2, refused_bytes plant is.0 halt is.3.1)
+read_fails calls name plant before halt after (inr is) =
+    inr (subst (SaysUnread name) (sym (same halt is.0 is.2)) (unread calls name before is.0 after is.1))
   where
-    ended : (h other : Halt) → Reading calls name trace_limit before (Err other) after → ◌≡◌ {A = Result Trace Halt} (Err h) (Err other) → SaysFits name (Err h)
-    ended (Refused refusal) (Refused another) reading e = let same : refusal ≡ another = cc in same ∙ reading.2
-    ended (Refused refusal) (Failed failed) reading e = absurd cc
-    ended (Refused refusal) Memory reading e = absurd cc
-    ended (Failed failed) other reading e = tt
-    ended Memory other reading e = tt
+    same : (one other : Halt) → ◌≡◌ {A = Result Trace Halt} (Err one) (Err other) → ◌≡◌ {A = Result (List ℕ) Halt} (Err one) (Err other)
+    same one other e = cc
 
 pub said_to_fit : {F : Type 0} (calls : Calls F) → GoodCertificatesFit → RecordingsAreSaidToFit calls
-said_to_fit calls law plant task cert name before given after is records (inl steps) =
+said_to_fit calls law plant task cert name before given after is (inl steps) =
     let read = file_ok calls name trace_limit (HasTrace plant) before steps.0 steps.1 steps.2 in
-    says_fits name plant cert steps.0 given
-    (judged_to_fit law plant task cert read.bytes steps.0 is (records read.bytes read.after read.read) read.fact) steps.3.1
-said_to_fit calls law plant task cert name before given after is records (inr steps) =
-    subst (SaysFits name) (sym steps.2) (read_fails calls name plant before steps.0 after records steps.1)
+    inl (
+      read.bytes,
+      read.after,
+      read.read,
+      λ records.
+          says_fits plant cert steps.0 given (judged_to_fit law plant task cert read.bytes steps.0 is records read.fact) steps.3.1,
+    )
+said_to_fit calls law plant task cert name before given after is (inr steps) =
+    subst (IsSaid calls plant name before) (sym steps.2) (read_fails calls name plant before steps.0 after steps.1)
