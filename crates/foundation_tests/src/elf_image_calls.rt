@@ -3,7 +3,6 @@ ghost use Rattle.elf_image.specs.Plain.{IsPlain};
 
 use elf_image::*;
 use std::alloc::Global;
-use std::test::*;
 
 /// A task of four instructions and one of three.
 const WORDS: [u32; 7] = [
@@ -29,13 +28,6 @@ fn two_tasks(alloc: Global) -> Result<Bytes, Memory> {
     plain_elf(alloc, 0x100, &WORDS, &symbols)
 }
 
-/// The file with other bytes at some places.
-fn changed(alloc: Global, changes: &[(usize, u8)]) -> Result<Vec<u8>, Memory> {
-    let mut file = two_tasks(alloc)?.into_vec();
-    change(&mut file, changes);
-    Ok(file)
-}
-
 /// A number that tells files apart.
 fn hash(bytes: &[u8]) -> u32 {
     let mut hash: u32 = 0;
@@ -45,48 +37,32 @@ fn hash(bytes: &[u8]) -> u32 {
     hash
 }
 
-fn change(file: &mut Vec<u8>, changes: &[(usize, u8)]) {
-    for (place, byte) in changes {
-        if *place < file.len() {
-            file[*place] = *byte;
-        }
+fn plain_file_has_hash(alloc: Global) -> bool {
+    match two_tasks(alloc) {
+        Ok(file) => file.len() == 360 && hash(file.as_slice()) == 0xd78a_313d,
+        Err(_) => false,
     }
 }
 
-fn kind_of(alloc: Global, bytes: &[u8]) -> Option<ElfKind> {
-    match read_elf(alloc, bytes) {
-        Err(ElfFault::Kind(kind)) => Some(kind),
-        _ => None,
-    }
+#[test]
+fn plain_file_is_that_of_another_writer(rt: HostRuntime) {
+    assert!(rt; plain_file_has_hash(rt.alloc()));
 }
 
 /// The file with its segment writable too, and with a segment and a section of attributes, which
 /// aren't loaded, behind its own.
-fn with_attributes(alloc: Global) -> Result<Vec<u8>, Memory> {
-    let plain = two_tasks(alloc)?;
-    let mut file = Vec::from_slice(alloc, plain.as_slice())?;
-    put_part(&mut file, plain.as_slice(), 52, 32)?;
+fn with_attributes(alloc: Global, plain: &[u8]) -> Result<Vec<u8>, Memory> {
+    let mut file = Vec::from_slice(alloc, plain)?;
+    put_part(&mut file, plain, 52, 32)?;
     file.extend_from_slice(&[
         3, 0, 0, 0x70, 84, 0, 0, 0, 0, 0, 0, 0, 0, 0, 0, 0, 4, 0, 0, 0, 0, 0, 0, 0, 4, 0, 0, 0, 1,
         0, 0, 0,
     ])?;
-    put_part(&mut file, plain.as_slice(), 200, 160)?;
+    put_part(&mut file, plain, 200, 160)?;
     file.extend_from_slice(&[
-        1, 0, 0, 0, 3, 0, 0, 0x70, 0, 0, 0, 0, 0, 0, 0, 0, 84, 0, 0, 0, 4, 0, 0, 0,
+        1, 0, 0, 0, 3, 0, 0, 0x70, 0, 0, 0, 0, 0, 0, 0, 0, 84, 0, 0, 0, 4, 0, 0, 0, 0, 0, 0, 0, 0,
+        0, 0, 0, 0, 0, 0, 0, 0, 0, 0, 0,
     ])?;
-    file.extend_from_slice(&[0; 16])?;
-    change(
-        &mut file,
-        &[
-            (28, 0x68),
-            (29, 1),
-            (32, 0xa8),
-            (33, 1),
-            (44, 2),
-            (48, 5),
-            (384, 7),
-        ],
-    );
     Ok(file)
 }
 
@@ -97,85 +73,143 @@ fn put_part(file: &mut Vec<u8>, from: &[u8], place: usize, size: usize) -> Resul
     Ok(())
 }
 
-#[test]
-fn plain_file_is_that_of_another_writer(rt: HostRuntime) -> Result<(), Fail> {
-    let file = two_tasks(rt.alloc())?;
-    assert_eq!(rt; file.len(), 360);
-    assert_eq!(rt; hash(file.as_slice()), 0xd78a_313d);
-    Ok(())
+fn put(file: &mut [u8], place: usize, byte: u8) {
+    if place < file.len() {
+        file[place] = byte;
+    }
 }
 
-#[test]
-fn words_and_symbols_are_those_of_the_file(rt: HostRuntime) -> Result<(), Fail> {
-    let plain = two_tasks(rt.alloc())?.into_vec();
-    for file in [plain, with_attributes(rt.alloc())?] {
-        let image = read_elf(rt.alloc(), &file)?;
-        for (i, word) in WORDS.iter().enumerate() {
-            assert_eq!(rt;
-                image.word(0x100 + 4 * i as u32),
-                Some(*word),
-                "at word {i}"
-            );
+fn count_attributes(file: &mut [u8]) {
+    put(file, 28, 0x68);
+    put(file, 29, 1);
+    put(file, 32, 0xa8);
+    put(file, 33, 1);
+    put(file, 44, 2);
+    put(file, 48, 5);
+    put(file, 384, 7);
+}
+
+/// Whether the image has the first and the last word, none around them, and both symbols.
+fn is_of_two_tasks(image: &Image) -> bool {
+    image.word(0x100) == Some(0x0070_0293)
+        && image.word(0x118) == Some(0x0000_0073)
+        && image.word(0xfc) == None
+        && image.word(0x11c) == None
+        && image.symbol(b"Task_", b"H") == Some(0x110)
+        && image.symbol(b"", b"Task_T") == Some(0x100)
+        && image.symbol(b"Task_", b"") == None
+}
+
+fn reads(alloc: Global, file: &[u8]) -> bool {
+    match read_elf(alloc, file) {
+        Ok(image) => is_of_two_tasks(&image),
+        Err(_) => false,
+    }
+}
+
+fn reads_attributes(alloc: Global, plain: &[u8]) -> bool {
+    match with_attributes(alloc, plain) {
+        Ok(mut file) => {
+            count_attributes(file.as_mut_slice());
+            reads(alloc, file.as_slice())
         }
-        for address in [0, 0xfc, 0x102, 0x11c] {
-            assert_eq!(rt; image.word(address), None, "at address {address}");
-        }
-        assert_eq!(rt; image.symbol(b"Task_", b"H"), Some(0x110));
-        assert_eq!(rt; image.symbol(b"", b"Task_T"), Some(0x100));
-        assert_eq!(rt; image.symbol(b"Task_", b""), None);
+        Err(_) => false,
     }
-    Ok(())
+}
+
+fn reads_both_files(alloc: Global) -> bool {
+    match two_tasks(alloc) {
+        Ok(plain) => reads(alloc, plain.as_slice()) && reads_attributes(alloc, plain.as_slice()),
+        Err(_) => false,
+    }
 }
 
 #[test]
-fn damaged_files_have_their_kinds(rt: HostRuntime) -> Result<(), Fail> {
-    let one_byte = [
-        (0, 0, ElfKind::Magic),
-        (4, 2, ElfKind::Class),
-        (18, 0xf2, ElfKind::Machine),
-        (16, 1, ElfKind::Kind),
-        (36, 1, ElfKind::Compressed),
-        (72, 4, ElfKind::Range),
-        (128, 0xff, ElfKind::Range),
-        (252, 4, ElfKind::Range),
-        (304, 4, ElfKind::Range),
-        (316, 0x0f, ElfKind::Range),
-        (284, 3, ElfKind::NoSymbols),
-        (248, 7, ElfKind::NoCode),
-    ];
-    for (place, byte, kind) in one_byte {
-        let file = changed(rt.alloc(), &[(place, byte)])?;
-        assert_eq!(rt; kind_of(rt.alloc(), &file), Some(kind), "at place {place}");
+fn words_and_symbols_are_those_of_the_file(rt: HostRuntime) {
+    assert!(rt; reads_both_files(rt.alloc()));
+}
+
+fn has_kind(alloc: Global, file: &[u8], wanted: ElfKind) -> bool {
+    match read_elf(alloc, file) {
+        Err(ElfFault::Kind(kind)) => kind == wanted,
+        _ => false,
     }
-    let large = changed(rt.alloc(), &[(72, 1), (73, 0), (74, 0), (75, 4)])?;
-    assert_eq!(rt; kind_of(rt.alloc(), &large), Some(ElfKind::Large));
-    for (length, kind) in [
-        (10, ElfKind::Short),
-        (51, ElfKind::Short),
-        (359, ElfKind::Range),
-    ] {
-        let mut file = two_tasks(rt.alloc())?.into_vec();
-        file.truncate(length);
-        assert_eq!(rt;
-            kind_of(rt.alloc(), &file),
-            Some(kind),
-            "of length {length}"
-        );
+}
+
+fn has_kind_with(alloc: Global, file: &mut [u8], place: usize, byte: u8, kind: ElfKind) -> bool {
+    put(file, place, byte);
+    has_kind(alloc, file, kind)
+}
+
+/// Whether the file with that byte there has a fault of this kind.
+fn refuses(alloc: Global, place: usize, byte: u8, kind: ElfKind) -> bool {
+    match two_tasks(alloc) {
+        Ok(file) => has_kind_with(alloc, file.into_vec().as_mut_slice(), place, byte, kind),
+        Err(_) => false,
     }
-    Ok(())
+}
+
+fn has_kind_at_length(alloc: Global, file: &[u8], length: usize, kind: ElfKind) -> bool {
+    length <= file.len() && has_kind(alloc, &file[..length], kind)
+}
+
+fn refuses_length(alloc: Global, length: usize, kind: ElfKind) -> bool {
+    match two_tasks(alloc) {
+        Ok(file) => has_kind_at_length(alloc, file.as_slice(), length, kind),
+        Err(_) => false,
+    }
+}
+
+#[rattlefmt::skip]
+fn refuses_headers(alloc: Global) -> bool {
+    refuses(alloc, 0, 0, ElfKind::Magic)
+        && refuses(alloc, 4, 2, ElfKind::Class)
+        && refuses(alloc, 18, 0xf2, ElfKind::Machine)
+        && refuses(alloc, 16, 1, ElfKind::Kind)
+        && refuses(alloc, 36, 1, ElfKind::Compressed)
+        && refuses(alloc, 72, 4, ElfKind::Range)
+        && refuses(alloc, 75, 4, ElfKind::Large)
+}
+
+#[rattlefmt::skip]
+fn refuses_tables(alloc: Global) -> bool {
+    refuses(alloc, 128, 0xff, ElfKind::Range)
+        && refuses(alloc, 304, 4, ElfKind::Range)
+        && refuses(alloc, 284, 3, ElfKind::NoSymbols)
+        && refuses(alloc, 248, 7, ElfKind::NoCode)
+        && refuses_length(alloc, 51, ElfKind::Short)
+        && refuses_length(alloc, 359, ElfKind::Range)
 }
 
 #[test]
-fn flat_bytes_are_all_code(rt: HostRuntime) -> Result<(), Fail> {
-    let bytes = [0x93, 0x02, 0x70, 0, 0x73, 0, 0, 0];
-    let image = flat(rt.alloc(), &bytes)?;
-    assert_eq!(rt; image.word(0), Some(0x0070_0293));
-    assert_eq!(rt; image.word(4), Some(0x73));
-    assert_eq!(rt; image.word(8), None);
-    assert_eq!(rt; image.symbol(b"Task_", b"T"), Some(0));
-    match flat(rt.alloc(), &bytes[..7]) {
-        Err(fault) => assert_eq!(rt; fault, ElfFault::Kind(ElfKind::Unaligned)),
-        Ok(_) => return Err("seven bytes are no flat image")?,
+fn damaged_files_have_their_kinds(rt: HostRuntime) {
+    assert!(rt; refuses_headers(rt.alloc()));
+    assert!(rt; refuses_tables(rt.alloc()));
+}
+
+fn is_flat(image: &Image) -> bool {
+    image.word(0) == Some(0x0070_0293)
+        && image.word(4) == Some(0x73)
+        && image.word(8) == None
+        && image.symbol(b"Task_", b"T") == Some(0)
+}
+
+fn reads_flat_bytes(alloc: Global) -> bool {
+    match flat(alloc, &[0x93, 0x02, 0x70, 0, 0x73, 0, 0, 0]) {
+        Ok(image) => is_flat(&image),
+        Err(_) => false,
     }
-    Ok(())
+}
+
+fn refuses_seven_bytes(alloc: Global) -> bool {
+    matches!(
+        flat(alloc, &[0x93, 0x02, 0x70, 0, 0x73, 0, 0]),
+        Err(ElfFault::Kind(ElfKind::Unaligned))
+    )
+}
+
+#[test]
+fn flat_bytes_are_all_code(rt: HostRuntime) {
+    assert!(rt; reads_flat_bytes(rt.alloc()));
+    assert!(rt; refuses_seven_bytes(rt.alloc()));
 }

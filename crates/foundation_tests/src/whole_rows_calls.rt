@@ -1,9 +1,8 @@
-ghost use Rattle.std.specs.Prelude.{◌≡◌, ◌≢◌, [], ◌∷◌, ◌<◌, ◌^◌, length, pos, negsuc, IfOk};
+ghost use Rattle.std.specs.Prelude.{◌≡◌, ◌≢◌, [], ◌∷◌, ◌<◌, length, pos, IfOk};
 ghost use Rattle.whole_rows.specs.Terms.{AreTerms};
 ghost use Rattle.whole_rows.specs.Rows.{sample};
 
 use std::alloc::Global;
-use std::test::Fail;
 use whole_rows::{
     DualVerdict, Memory, Row, RowFault, RowTerm, Rows, Term, Terms, combine, combined_entry,
     first_failing, first_negative, gcd, primitive,
@@ -20,95 +19,139 @@ fn row_of(alloc: Global, numbers: &[i64]) -> Result<Row, Memory>
     Row::from_slice(alloc, entries.as_slice())
 }
 
-fn entries_of(alloc: Global, row: &Row) -> Result<Vec<i128>, Memory> {
-    let mut entries = Vec::new(alloc);
-    for i in 0..row.len() {
-        entries.push(row.get(i))?;
+/// Whether the row's entries are these.
+fn has(row: &Row, entries: &[i128]) -> bool {
+    if row.len() != entries.len() {
+        return false;
     }
-    Ok(entries)
+    for i in 0..entries.len() {
+        if row.get(i) != entries[i] {
+            return false;
+        }
+    }
+    true
 }
 
 const LARGE: i64 = 0x4000_0000_0000_0000;
 
-#[test]
-fn combines_rows(rt: HostRuntime) -> Result<(), Fail> {
-    let alloc = rt.alloc();
-    let cases: [(i128, [i64; 2], i128, [i64; 2], [i128; 2]); 4] = [
-        (3, [2, 4], 2, [1, 1], [4, 10]),
-        (1, [-7, 0], -1, [7, 5], [0, 5]),
-        (-2, [3, LARGE], 0, [9, 9], [-6, -0x8000_0000_0000_0000]),
-        (
-            0x1_0000_0000_0000_0000,
-            [0, 2],
-            1,
-            [5, 4],
-            [-5, 0x1_FFFF_FFFF_FFFF_FFFC],
-        ),
-    ];
-    for (p, row, a, other, want) in cases {
-        let combined = combine(alloc, &row_of(alloc, &row)?, p, &row_of(alloc, &other)?, a)?;
-        assert_eq!(rt;
-            entries_of(alloc, &combined)?.as_slice(),
-            want.as_slice(),
-            "at {p} and {a}"
-        );
+/// The combination, where the other row is built too.
+fn combined_with(alloc: Global, row: &Row, p: i128, other: &[i64], a: i128) -> Result<Row, RowFault>
+    requires { length row.now ≡ length other.now }
+{
+    match row_of(alloc, other) {
+        Ok(other) => combine(alloc, row, p, &other, a),
+        Err(_) => Err(RowFault::Memory),
     }
-    Ok(())
+}
+
+fn combined(alloc: Global, row: &[i64], p: i128, other: &[i64], a: i128) -> Result<Row, RowFault>
+    requires { length row.now ≡ length other.now }
+{
+    match row_of(alloc, row) {
+        Ok(row) => combined_with(alloc, &row, p, other, a),
+        Err(_) => Err(RowFault::Memory),
+    }
+}
+
+/// Whether `p` times the row less `a` times the other one has these entries.
+fn combines(
+    alloc: Global,
+    row: [i64; 2],
+    p: i128,
+    other: [i64; 2],
+    a: i128,
+    entries: [i128; 2],
+) -> bool {
+    match combined(alloc, &row, p, &other, a) {
+        Ok(combination) => has(&combination, &entries),
+        Err(_) => false,
+    }
 }
 
 #[test]
-fn reports_the_first_wide_place(rt: HostRuntime) -> Result<(), Fail> {
-    let alloc = rt.alloc();
+fn combines_rows(rt: HostRuntime) {
+    assert!(rt; combines(rt.alloc(), [2, 4], 3, [1, 1], 2, [4, 10]));
+    assert!(rt;
+        combines(
+            rt.alloc(),
+            [3, LARGE],
+            -2,
+            [9, 9],
+            0,
+            [-6, -0x8000_0000_0000_0000]
+        )
+    );
+    assert!(rt;
+        combines(
+            rt.alloc(),
+            [0, 2],
+            1 << 64,
+            [5, 4],
+            1,
+            [-5, 0x1_FFFF_FFFF_FFFF_FFFC]
+        )
+    );
+}
+
+/// Whether the combination leaves the range, first at the product or difference of these numbers.
+fn is_wide(
+    alloc: Global,
+    row: [i64; 2],
+    p: i128,
+    other: [i64; 2],
+    a: i128,
+    one: i128,
+    two: i128,
+) -> bool {
+    match combined(alloc, &row, p, &other, a) {
+        Err(RowFault::Wide { a, b }) => a == one && b == two,
+        _ => false,
+    }
+}
+
+#[test]
+fn reports_the_first_wide_place(rt: HostRuntime) {
     let power: i128 = 0x1000_0000_0000_0000_0000_0000_0000;
     let edge: i128 = 0x4000_0000_0000_0000_0000_0000_0000_0000;
-    let cases: [(i128, [i64; 2], i128, [i64; 2], i128, i128); 4] = [
-        (power, [1, LARGE], 1, [0, 0], power, LARGE as i128),
-        (1, [0, 2], power, [LARGE, LARGE], power, LARGE as i128),
-        (edge, [1, 1], edge, [0, -1], edge, -edge),
-        (-edge, [0, 2], 1, [1, 1], -edge, 2),
-    ];
-    for (p, row, a, other, one, two) in cases {
-        let fault = combine(alloc, &row_of(alloc, &row)?, p, &row_of(alloc, &other)?, a).err();
-        assert_eq!(rt;
-            fault,
-            Some(RowFault::Wide { a: one, b: two }),
-            "at {p} and {a}"
-        );
+    let large = 0x4000_0000_0000_0000;
+    assert!(rt; is_wide(rt.alloc(), [0, 2], 1, [LARGE, LARGE], power, power, large));
+    assert!(rt; is_wide(rt.alloc(), [1, 1], edge, [0, -1], edge, edge, -edge));
+}
+
+/// Whether the row divided by its greatest divisor has these entries, of which that one is the
+/// first negative one.
+fn divides(alloc: Global, numbers: [i64; 3], entries: [i128; 3], negative: Option<usize>) -> bool {
+    match row_of(alloc, &numbers) {
+        Ok(mut row) => {
+            primitive(&mut row);
+            has(&row, &entries) && first_negative(&row) == negative
+        }
+        Err(_) => false,
     }
-    Ok(())
 }
 
 #[test]
-fn divides_and_searches_rows(rt: HostRuntime) -> Result<(), Fail> {
-    let alloc = rt.alloc();
-    let cases: [([i64; 3], [i128; 3], Option<usize>); 5] = [
-        ([4, 10, 0], [2, 5, 0], None),
-        ([2, 5, -1], [2, 5, -1], Some(2)),
-        ([0, 0, 0], [0, 0, 0], None),
-        ([0, -6, 9], [0, -2, 3], Some(1)),
-        ([-LARGE, 0, 0], [-1, 0, 0], Some(0)),
-    ];
-    for (numbers, want, negative) in cases {
-        let mut row = row_of(alloc, &numbers)?;
-        primitive(&mut row);
-        assert_eq!(rt;
-            entries_of(alloc, &row)?.as_slice(),
-            want.as_slice(),
-            "at {numbers:?}"
-        );
-        assert_eq!(rt; first_negative(&row), negative, "at {numbers:?}");
+fn divides_and_searches_rows(rt: HostRuntime) {
+    assert!(rt; divides(rt.alloc(), [4, 10, 0], [2, 5, 0], None));
+    assert!(rt; divides(rt.alloc(), [0, -6, 9], [0, -2, 3], Some(1)));
+    assert!(rt; divides(rt.alloc(), [-LARGE, 0, 0], [-1, 0, 0], Some(0)));
+    assert!(rt; gcd(-12, 18) == 6 && gcd(0, 0) == 0);
+    assert!(rt; gcd(i128::MIN, 0) == 0x8000_0000_0000_0000_0000_0000_0000_0000);
+}
+
+/// Whether the row of that number is narrow.
+fn is_narrow(alloc: Global, number: i64) -> bool {
+    match row_of(alloc, &[number]) {
+        Ok(row) => row.is_narrow(),
+        Err(_) => false,
     }
-    assert_eq!(rt; gcd(-12, 18), 6);
-    assert_eq!(rt; gcd(0, 0), 0);
-    assert_eq!(rt;
-        gcd(i128::MIN, 0),
-        0x8000_0000_0000_0000_0000_0000_0000_0000
-    );
-    assert_eq!(rt;
-        gcd(0xC0_0000_0000_0000_0000, -0xA0_0000_0000_0000_0000),
-        0x20_0000_0000_0000_0000
-    );
-    Ok(())
+}
+
+#[test]
+fn tells_narrow_rows(rt: HostRuntime) {
+    assert!(rt; is_narrow(rt.alloc(), 0x7FFF_FFFF));
+    assert!(rt; !is_narrow(rt.alloc(), 0x8000_0000));
+    assert!(rt; !is_narrow(rt.alloc(), -0x8000_0000));
 }
 
 /// Zeros, and at the last place the number.
@@ -123,52 +166,72 @@ fn ended_by(alloc: Global, len: usize, number: i64) -> Result<Row, Memory>
     row_of(alloc, numbers.as_slice())
 }
 
-#[test]
-fn tells_narrow_rows(rt: HostRuntime) -> Result<(), Fail> {
-    let alloc = rt.alloc();
-    let edge = 0x7FFF_FFFF;
-    let row = row_of(alloc, &[edge])?;
-    let pivot_row = row_of(alloc, &[-edge])?;
-    assert!(rt; row.is_narrow() && pivot_row.is_narrow());
-    assert!(rt; !row_of(alloc, &[edge + 1])?.is_narrow());
-    assert!(rt; !row_of(alloc, &[-edge - 1])?.is_narrow());
-    let mut combined = combine(alloc, &row, i128::from(edge), &pivot_row, i128::from(edge))?;
-    assert_eq!(rt;
-        entries_of(alloc, &combined)?.as_slice(),
-        [9_223_372_028_264_841_218].as_slice()
-    );
-    assert!(rt; !combined.is_narrow());
-    primitive(&mut combined);
-    assert_eq!(rt; entries_of(alloc, &combined)?.as_slice(), [1].as_slice());
-    assert!(rt; combined.is_narrow());
-    Ok(())
-}
-
-#[test]
-fn reads_the_last_entry_of_each_length(rt: HostRuntime) -> Result<(), Fail> {
-    let alloc = rt.alloc();
-    assert_eq!(rt; first_negative(&row_of(alloc, &[])?), None);
-    for len in 1..41 {
-        let row = ended_by(alloc, len, 3)?;
-        let pivot_row = ended_by(alloc, len, 5)?;
-        assert_eq!(rt; first_negative(&row), None, "at {len}");
-        assert_eq!(rt; pivot_row.len(), row.len());
-        let combined = combine(alloc, &row, 2, &pivot_row, 7)?;
-        assert_eq!(rt; combined.len(), len);
-        assert_eq!(rt; combined.get(len - 1), -29, "at {len}");
-        assert_eq!(rt; first_negative(&combined), Some(len - 1), "at {len}");
+/// Whether the row's last entry, the first that is negative, is that number.
+fn ends(row: &Row, number: i128) -> bool {
+    match first_negative(row) {
+        Some(place) => place < row.len() && place == row.len() - 1 && row.get(place) == number,
+        None => false,
     }
-    Ok(())
+}
+
+fn combination_ends(alloc: Global, row: &Row, pivot_row: &Row) -> bool {
+    if row.len() != pivot_row.len() {
+        return false;
+    }
+    match combine(alloc, row, 2, pivot_row, 7) {
+        Ok(combination) => combination.len() == row.len() && ends(&combination, -29),
+        Err(_) => false,
+    }
+}
+
+fn combination_with(alloc: Global, row: &Row, len: usize) -> bool
+    requires { 0 < len }
+{
+    match ended_by(alloc, len, 5) {
+        Ok(pivot_row) => combination_ends(alloc, row, &pivot_row),
+        Err(_) => false,
+    }
+}
+
+/// Whether the last entries of rows of that length are combined and found.
+fn reads_the_last_entry(alloc: Global, len: usize) -> bool
+    requires { 0 < len }
+{
+    match ended_by(alloc, len, 3) {
+        Ok(row) => row.len() == len && combination_with(alloc, &row, len),
+        Err(_) => false,
+    }
 }
 
 #[test]
-fn changes_one_entry(rt: HostRuntime) -> Result<(), Fail> {
-    let alloc = rt.alloc();
-    let mut row = row_of(alloc, &[4, 10])?;
-    let entry = combined_entry(3, row.get(1), 2, 7)?;
-    row.set(1, entry);
-    assert_eq!(rt; entries_of(alloc, &row)?.as_slice(), [4, 16].as_slice());
-    Ok(())
+fn reads_the_last_entry_of_each_length(rt: HostRuntime) {
+    for len in 1..41 {
+        assert!(rt; reads_the_last_entry(rt.alloc(), len));
+    }
+}
+
+/// Whether an entry of a row is put in its place.
+fn changes(row: &mut Row) -> bool {
+    if row.len() != 2 {
+        return false;
+    }
+    match combined_entry(3, row.get(1), 2, 7) {
+        Ok(entry) => row.set(1, entry),
+        Err(_) => return false,
+    }
+    has(row, &[4, 16])
+}
+
+fn changes_entry(alloc: Global) -> bool {
+    match row_of(alloc, &[4, 10]) {
+        Ok(mut row) => changes(&mut row),
+        Err(_) => false,
+    }
+}
+
+#[test]
+fn changes_one_entry(rt: HostRuntime) {
+    assert!(rt; changes_entry(rt.alloc()));
 }
 
 /// Two terms, at the columns 0 and 1.
@@ -200,37 +263,41 @@ fn sample_rows(alloc: Global) -> Result<Rows, Memory>
     Ok(rows)
 }
 
-#[test]
-fn keeps_rows(rt: HostRuntime) -> Result<(), Fail> {
-    let rows = sample_rows(rt.alloc())?;
-    assert_eq!(rt; (rows.row_count(), rows.column_count()), (2, 2));
-    assert_eq!(rt; (rows.cost(0), rows.cost(1)), (3, 2));
-    assert_eq!(rt; (rows.right(0), rows.right(1)), (4, 2));
-    assert_eq!(rt; (rows.entry(0, 1), rows.entry(1, 1)), (1, -1));
-    assert_eq!(rt; rows.column_terms(1), 2);
-    assert_eq!(rt; rows.column_term(1, 1), RowTerm { row: 1, entry: -1 });
-    Ok(())
+/// Whether the rows are told as they were given.
+fn keeps(rows: &Rows) -> bool
+    requires { rows.now ≡ sample }
+{
+    rows.row_count() == 2
+        && rows.column_count() == 2
+        && rows.cost(0) == 3
+        && rows.right(1) == 2
+        && rows.entry(1, 1) == -1
+        && rows.column_terms(1) == 2
+        && rows.column_term(1, 1) == RowTerm { row: 1, entry: -1 }
+}
+
+/// Whether multipliers with the denominator 2 are judged: the good ones, too few, and each that fails.
+fn judges(rows: &Rows) -> bool
+    requires { rows.now ≡ sample }
+{
+    first_failing(rows, &[5, 1], 2, 11) == DualVerdict::Yes
+        && first_failing(rows, &[5], 2, 11)
+            == DualVerdict::Count {
+                given: 1,
+                wanted: 2,
+            }
+        && first_failing(rows, &[5, 2], 2, 11) == DualVerdict::Column { column: 1 }
+        && first_failing(rows, &[5, 1], 2, 10) == DualVerdict::Bound
+}
+
+fn keeps_and_judges(alloc: Global) -> bool {
+    match sample_rows(alloc) {
+        Ok(rows) => keeps(&rows) && judges(&rows),
+        Err(_) => false,
+    }
 }
 
 #[test]
-fn judges_multipliers(rt: HostRuntime) -> Result<(), Fail> {
-    let rows = sample_rows(rt.alloc())?;
-    assert_eq!(rt; first_failing(&rows, &[5, 1], 2, 11), DualVerdict::Yes);
-    assert_eq!(rt;
-        first_failing(&rows, &[5], 2, 11),
-        DualVerdict::Count {
-            given: 1,
-            wanted: 2
-        }
-    );
-    assert_eq!(rt;
-        first_failing(&rows, &[5, 0], 2, 11),
-        DualVerdict::Column { column: 0 }
-    );
-    assert_eq!(rt;
-        first_failing(&rows, &[5, 2], 2, 11),
-        DualVerdict::Column { column: 1 }
-    );
-    assert_eq!(rt; first_failing(&rows, &[5, 1], 2, 10), DualVerdict::Bound);
-    Ok(())
+fn keeps_rows_and_judges_multipliers(rt: HostRuntime) {
+    assert!(rt; keeps_and_judges(rt.alloc()));
 }

@@ -3,9 +3,8 @@ ghost use Rattle.whole_rows.specs.Row.{IsInRange};
 ghost use Rattle.whole_rows.specs.Terms.{AreTerms};
 
 use std::alloc::Global;
-use std::test::Fail;
 use whole_rows::{Row, Rows, Term, Terms};
-use whole_simplex::{Memory, SolveFault, solve};
+use whole_simplex::{Memory, Optimum, SolveFault, solve};
 
 /// The term of column 0.
 fn one_term(alloc: Global, entry: i128) -> Result<Terms, Memory>
@@ -26,69 +25,92 @@ fn one_column(alloc: Global, cost: i128) -> Result<Rows, Memory>
     Rows::made(alloc, &Row::from_slice(alloc, &[cost])?)
 }
 
-/// Where an answer leads: the multipliers, the denominator, the bound and the pivots, or numbers.
-fn told(alloc: Global, rows: &Rows, pivots: u32) -> Result<Vec<i128>, Memory> {
-    let mut numbers = Vec::new(alloc);
-    match solve(alloc, rows, pivots) {
-        Ok(optimum) => {
-            for i in 0..optimum.multipliers.len() {
-                numbers.push(optimum.multipliers.get(i))?;
-            }
-            numbers.push(optimum.denominator)?;
-            numbers.push(optimum.bound)?;
-            numbers.push(i128::from(optimum.pivots))?;
-        }
-        Err(SolveFault::Unbounded { ray }) => {
-            for i in 0..ray.len() {
-                numbers.push(ray.get(i))?;
-            }
-        }
-        Err(SolveFault::Entries { rows, columns }) => {
-            numbers.push(rows as i128)?;
-            numbers.push(columns as i128)?;
-        }
-        Err(SolveFault::Pivots { count }) => numbers.push(i128::from(count))?,
-        Err(SolveFault::Wide { pivots, a, b }) => {
-            numbers.push(i128::from(pivots))?;
-            numbers.push(a)?;
-            numbers.push(b)?;
-        }
-        Err(SolveFault::Multiplier { value }) => numbers.push(value)?,
-        Err(SolveFault::Memory) => return Err(Memory),
+/// One column of that cost, and one row: that entry times it is at most the right side.
+fn one_row(alloc: Global, cost: i128, entry: i128, right: i128) -> Result<Rows, Memory>
+    requires cost { IsInRange cost }
+    requires not_zero { entry ≢ pos 0 }
+    requires entry { IsInRange entry }
+    requires right { IsInRange right }
+    requires not_negative { pos 0 ≤ℤ right }
+{
+    let mut rows = one_column(alloc, cost)?;
+    rows.push_row(&one_term(alloc, entry)?, right)?;
+    Ok(rows)
+}
+
+/// Whether the only multiplier is 3, of the denominator 2, and the bound 10 is found with one pivot.
+fn is_optimum(optimum: &Optimum) -> bool {
+    optimum.multipliers.len() == 1
+        && optimum.multipliers.get(0) == 3
+        && optimum.denominator == 2
+        && optimum.bound == 10
+        && optimum.pivots == 1
+}
+
+/// Whether 3 x, where 2 x is at most 7, is bounded, but not without a pivot.
+fn solves(alloc: Global, rows: &Rows) -> bool {
+    match solve(alloc, rows, 5) {
+        Ok(optimum) => is_optimum(&optimum),
+        Err(_) => false,
     }
-    Ok(numbers)
+}
+
+fn wants_pivots(alloc: Global, rows: &Rows) -> bool {
+    matches!(solve(alloc, rows, 0), Err(SolveFault::Pivots { count: 0 }))
+}
+
+fn solves_one_row(alloc: Global) -> bool {
+    match one_row(alloc, 3, 2, 7) {
+        Ok(rows) => solves(alloc, &rows) && wants_pivots(alloc, &rows),
+        Err(_) => false,
+    }
 }
 
 #[test]
-fn solves_one_column(rt: HostRuntime) -> Result<(), Fail> {
-    let alloc = rt.alloc();
-    let mut rows = one_column(alloc, 3)?;
-    rows.push_row(&one_term(alloc, 2)?, 7)?;
-    assert_eq!(rt; told(alloc, &rows, 5)?.as_slice(), [3, 2, 10, 1].as_slice());
-    assert_eq!(rt; told(alloc, &rows, 0)?.as_slice(), [0].as_slice());
-    Ok(())
+fn solves_one_column(rt: HostRuntime) {
+    assert!(rt; solves_one_row(rt.alloc()));
+}
+
+/// Whether the ray of one column is shown.
+fn has_ray(alloc: Global, rows: &Rows) -> bool {
+    match solve(alloc, rows, 5) {
+        Err(SolveFault::Unbounded { ray }) => ray.len() == 1 && ray.get(0) == 1,
+        _ => false,
+    }
+}
+
+fn free_column_has_ray(alloc: Global) -> bool {
+    match one_column(alloc, 1) {
+        Ok(rows) => has_ray(alloc, &rows),
+        Err(_) => false,
+    }
 }
 
 #[test]
-fn shows_a_ray(rt: HostRuntime) -> Result<(), Fail> {
-    let alloc = rt.alloc();
-    let mut rows = one_column(alloc, 1)?;
-    rows.push_row(&Terms::new(alloc), 1)?;
-    assert_eq!(rt; told(alloc, &rows, 5)?.as_slice(), [1].as_slice());
-    Ok(())
+fn shows_a_ray(rt: HostRuntime) {
+    assert!(rt; free_column_has_ray(rt.alloc()));
+}
+
+/// Whether the first pivot leaves the range, at these numbers.
+fn is_wide(alloc: Global, rows: &Rows, one: i128, two: i128) -> bool {
+    match solve(alloc, rows, 5) {
+        Err(SolveFault::Wide { pivots, a, b }) => pivots == 0 && a == one && b == two,
+        _ => false,
+    }
+}
+
+const POWER: i128 = 0x10_0000_0000_0000_0000_0000_0000;
+
+fn powers_are_wide(alloc: Global) -> bool {
+    match one_row(alloc, POWER, POWER, 1) {
+        Ok(rows) => is_wide(alloc, &rows, POWER, -POWER),
+        Err(_) => false,
+    }
 }
 
 #[test]
-fn reports_a_wide_product(rt: HostRuntime) -> Result<(), Fail> {
-    let alloc = rt.alloc();
-    let power: i128 = 0x10_0000_0000_0000_0000_0000_0000;
-    let mut rows = one_column(alloc, power)?;
-    rows.push_row(&one_term(alloc, power)?, 1)?;
-    assert_eq!(rt;
-        told(alloc, &rows, 5)?.as_slice(),
-        [0, power, -power].as_slice()
-    );
-    Ok(())
+fn reports_a_wide_product(rt: HostRuntime) {
+    assert!(rt; powers_are_wide(rt.alloc()));
 }
 
 /// One column of cost 1, and that many rows that hold it to 1.
@@ -101,10 +123,24 @@ fn many_rows(alloc: Global, count: usize) -> Result<Rows, Memory> {
     Ok(rows)
 }
 
+fn is_large(alloc: Global, rows: &Rows) -> bool {
+    matches!(
+        solve(alloc, rows, 5),
+        Err(SolveFault::Entries {
+            rows: 4095,
+            columns: 1
+        })
+    )
+}
+
+fn many_rows_are_large(alloc: Global) -> bool {
+    match many_rows(alloc, 4095) {
+        Ok(rows) => is_large(alloc, &rows),
+        Err(_) => false,
+    }
+}
+
 #[test]
-fn refuses_a_large_table(rt: HostRuntime) -> Result<(), Fail> {
-    let alloc = rt.alloc();
-    let rows = many_rows(alloc, 4095)?;
-    assert_eq!(rt; told(alloc, &rows, 5)?.as_slice(), [4095, 1].as_slice());
-    Ok(())
+fn refuses_a_large_table(rt: HostRuntime) {
+    assert!(rt; many_rows_are_large(rt.alloc()));
 }
