@@ -1,26 +1,50 @@
-use crate::file::{RowsFault, rows_of};
+use crate::file::{RowsKind, rows_of};
 use listed::Fault;
 use serde_json::Value;
 use std::alloc::Global;
-use std::test::*;
 use whole_rows::Rows;
 
-// Greatest 3 x + 2 y, where x - y is at most 4, with the right side to be written.
-fn rows_with(alloc: Global, right: &str) -> Result<Result<Rows, RowsFault>, Fail> {
-    let text = format!(in alloc;
-        "{{\"costs\":[3,2],\"rows\":[{{\"terms\":[[0,1],[1,-1]],\"right\":{right}}}]}}"
-    )?;
-    let value = Value::from_str(alloc, text.as_str()).ok().ok_or("JSON")?;
-    Ok(rows_of(alloc, &value))
+/// Greatest 3 x + 2 y, where x - y is at most 4.
+const ROWS: &str = "{\"costs\":[3,2],\"rows\":[{\"terms\":[[0,1],[1,-1]],\"right\":4}]}";
+
+/// The same with a right side below 0.
+const BELOW: &str = "{\"costs\":[3,2],\"rows\":[{\"terms\":[[0,1],[1,-1]],\"right\":-1}]}";
+
+fn are_rows(rows: &Rows) -> bool {
+    rows.row_count() == 1
+        && rows.column_count() == 2
+        && rows.cost(0) == 3
+        && rows.entry(0, 1) == -1
+        && rows.right(0) == 4
+}
+
+fn is_read(alloc: Global, value: &Value) -> bool {
+    match rows_of(alloc, value) {
+        Ok(rows) => are_rows(&rows),
+        Err(_) => false,
+    }
+}
+
+fn is_refused(alloc: Global, value: &Value) -> bool {
+    matches!(rows_of(alloc, value), Err(Fault::Kind(RowsKind::Shape)))
+}
+
+fn reads(alloc: Global) -> bool {
+    match Value::from_str(alloc, ROWS) {
+        Ok(value) => is_read(alloc, &value),
+        Err(_) => false,
+    }
+}
+
+fn refuses(alloc: Global) -> bool {
+    match Value::from_str(alloc, BELOW) {
+        Ok(value) => is_refused(alloc, &value),
+        Err(_) => false,
+    }
 }
 
 #[test]
-fn memory_is_not_wanted(rt: HostRuntime) -> Result<(), Fail> {
-    let rows = rows_with(rt.alloc(), "4")?.ok().ok_or("rows")?;
-    assert_eq!(rt; rows.row_count(), 1);
-    for right in ["-1", "4.0", "null", "9223372036854775808"] {
-        let refused = rows_with(rt.alloc(), right)?;
-        assert!(rt; matches!(refused, Err(Fault::Kind(_))));
-    }
-    Ok(())
+fn rows_are_read_and_a_side_below_zero_is_refused(rt: HostRuntime) {
+    assert!(rt; reads(rt.alloc()));
+    assert!(rt; refuses(rt.alloc()));
 }
