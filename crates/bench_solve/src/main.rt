@@ -80,6 +80,3 @@ fn main(rt: HostRuntime) -> Result<()> {
     }
     Ok(())
 }
-
-#[cfg(test)]
-mod tests;
