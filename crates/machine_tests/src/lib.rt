@@ -7,6 +7,8 @@ mod flow_graph_calls;
 #[cfg(test)]
 mod osek_machine_calls;
 #[cfg(test)]
+mod plants;
+#[cfg(test)]
 mod replay_calls;
 #[cfg(test)]
 mod reports_calls;
