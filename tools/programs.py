@@ -1,4 +1,4 @@
-"""The built programs, for the checks of this folder."""
+"""The built programs, for the tools and checks of this folder."""
 import os
 import shutil
 import subprocess
@@ -19,3 +19,17 @@ def built(check, name):
         print(f"{check}: skipped, since {name} isn't built from these sources and rt is not here")
         sys.exit(0)
     sys.exit(f"{check}: {name} doesn't build:\n{done.stderr}")
+
+
+def found(name):
+    """The path of the program of that name: in the folder that SYSWCET_PROGRAMS names, of an installed tree, or as it was built
+    last; None where it isn't there."""
+    named = os.environ.get("SYSWCET_PROGRAMS")
+    paths = [os.path.join(named, name)] if named else [os.path.join(ROOT, "programs", name), os.path.join(ROOT, "crates", name, "out", name)]
+    return next((path for path in paths if os.access(path, os.X_OK)), None)
+
+
+def shared(*names):
+    """The path of a shared file, in the source tree or in an installed one."""
+    paths = [os.path.join(ROOT, "share", *names), os.path.join(os.path.dirname(os.path.dirname(ROOT)), "share", "syswcet", *names)]
+    return next((path for path in paths if os.path.exists(path)), paths[0])
