@@ -21,12 +21,17 @@ def built(check, name):
     sys.exit(f"{check}: {name} doesn't build:\n{done.stderr}")
 
 
+def set_up(name):
+    """The path of the program of that name in the folder that SYSWCET_PROGRAMS names, or of an installed tree; None where it
+    isn't there."""
+    path = os.path.join(os.environ.get("SYSWCET_PROGRAMS") or os.path.join(ROOT, "programs"), name)
+    return path if os.access(path, os.X_OK) else None
+
+
 def found(name):
-    """The path of the program of that name: in the folder that SYSWCET_PROGRAMS names, of an installed tree, or as it was built
-    last; None where it isn't there."""
-    named = os.environ.get("SYSWCET_PROGRAMS")
-    paths = [os.path.join(named, name)] if named else [os.path.join(ROOT, "programs", name), os.path.join(ROOT, "crates", name, "out", name)]
-    return next((path for path in paths if os.access(path, os.X_OK)), None)
+    """The path of the program of that name, set up or as it was built last; None where it isn't there."""
+    path = os.path.join(ROOT, "crates", name, "out", name)
+    return set_up(name) or (path if os.access(path, os.X_OK) else None)
 
 
 def shared(*names):
