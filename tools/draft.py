@@ -267,7 +267,7 @@ def waits_of(program, graphs, path):
         for address in graph.after:
             fetch = max((numbers["fetch"] for begin, end, numbers in ranges if begin <= address <= end), default=0)
             waits[address] = max(waits[address], fetch + data_wait(program.words[address], known.get(address, {}), ranges))
-    extras: list = []
+    extras = []
     for address, cycles in sorted(waits.items()):
         if cycles and extras and extras[-1][1] == address - 4 and extras[-1][2] == cycles:
             extras[-1][1] = address
