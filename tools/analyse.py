@@ -46,7 +46,8 @@ class Stop(Exception):
 
 
 def tell(text):
-    print(f"analyse: {text}", file=sys.stderr, flush=True)
+    # one write, since several threads tell
+    sys.stderr.write(f"analyse: {text}\n")
 
 
 # ---- Words and the project

@@ -18,6 +18,8 @@ from programs import ROOT, found
 
 COMPILERS = {"gcc": ("riscv64-unknown-elf-gcc",), "clang": ("clang", "ld.lld")}
 OPTIONS = ("-O1", "-O2", "-Os", "-O3")
+# gcc goes round both loops of `checked` by jumps to the same words, and their product takes more time than there is
+WOVEN = {("pump", "gcc", "-O1")}
 wrong = []
 
 
@@ -88,6 +90,9 @@ def one_compiled(folder, name, compiler, option):
         return
     words = [example(name, f"{name}.oil"), elf, timing, "--schedule", example(name, "schedule.json"), "--jobs", "1"]
     done = tool("analyse", *words, "--out", os.path.join(place, "out"))
+    if done.returncode == 2 and (name, compiler, option) in WOVEN and "unbounded" in done.stderr:
+        print(f"check_tools: {name} by {compiler} {option}: a task has no bound, since two of its loops are woven into one")
+        return
     if done.returncode:
         fail(f"analyse of {name} by {compiler} {option}, status {done.returncode}: {done.stderr}")
         return
