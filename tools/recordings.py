@@ -95,7 +95,7 @@ class Costs:
         raised = {name: -(-cost * (100 + margin) // 100) for name, cost in self.greatest.items()}
         services = {name: cost for name, cost in raised.items() if name not in ("alarm", "interrupt")}
         takings = {name: cost for name, cost in raised.items() if name in ("alarm", "interrupt")}
-        timing = {**base, "version": 2}
+        timing: dict[str, Any] = {**base, "version": 2}
         timing["services"] = {"default": max(services.values()), **dict(sorted(services.items()))}
         for name in ("alarm", "interrupt"):
             timing[name] = takings.get(name, max(takings.values()))

@@ -165,8 +165,9 @@ static void put(unsigned first, unsigned second, unsigned third, unsigned fourth
  * Then the events, oldest first. */
 void shut_down(unsigned cause)
 {
-    unsigned address, value, kept = recorded < EVENTS ? recorded : EVENTS;
-    WRITE(mstatus, 0);
+    unsigned address, value, kept;
+    WRITE(mstatus, 0); /* from here on nothing is recorded */
+    kept = recorded < EVENTS ? recorded : EVENTS;
     __asm__ volatile("csrr %0, mepc" : "=r"(address));
     __asm__ volatile("csrr %0, mtval" : "=r"(value));
     UART(FIFO_CONTROL) = 1;

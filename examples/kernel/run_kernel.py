@@ -83,7 +83,7 @@ def read_recording(data: bytes) -> Recording:
         raise Unread(f"the kernel stopped at a trap that nobody awaits: cause {cause:#x} at {address:#x}, value {value:#x}")
     if len(data) != 32 + 16 * kept:
         raise Unread("the recording is cut")
-    return Recording(zero, last, recorded, list(struct.iter_unpack("<4I", data[32:])))
+    return Recording(zero, last, recorded, [(what, start, end, place) for what, start, end, place in struct.iter_unpack("<4I", data[32:])])
 
 
 def played(kernel: str, script: Script, seconds: int = 600) -> Recording:
