@@ -50,12 +50,15 @@ class Subject(NamedTuple):
 
 
 class Fault(NamedTuple):
-    """A fault of the kernel: its name in kernel.h, what it is, the systems that come to it, and whether `trace judge` refutes it."""
+    """A fault: its name in kernel.h, what it is, the systems that come to it, and whether `trace judge` refutes it."""
 
     name: str
     words: str
     systems: tuple[str, ...]
     is_refuted: bool
+
+
+Certified = tuple[dict[str, int], dict[str, str]]
 
 
 class Measured(NamedTuple):
@@ -70,7 +73,8 @@ class Measured(NamedTuple):
     verdicts: list[str]
 
 
-SUBJECTS = [Subject("pump", "pump", "states.json"), Subject("press", "press", "states.json"), Subject("compiled", "s", "k")]
+SUBJECTS = [Subject("pump", "pump", "states.json"), Subject("press", "press", "states.json"),
+            Subject("compiled", "s", "k")]
 ALL = ("pump", "press", "compiled")
 FAULTS = [
     Fault("LOST_CEILING", "GetResource doesn't raise the priority", ("pump", "compiled"), True),
@@ -107,9 +111,9 @@ def recorded(path: str, declared: Declared, seed: int, length: int) -> Trace:
 
 
 def asked(program: str, words: list[str]) -> str:
-    """What the program answers, without the line's end."""
+    """What the program answers, without the line's end; its status where it answers nothing."""
     done = subprocess.run([program, *words], capture_output=True, text=True, check=False)
-    return done.stdout.rstrip("\n")
+    return done.stdout.rstrip("\n") or f"status {done.returncode}"
 
 
 def judged(program: str, subject: Subject, timing: str, certs: dict[str, str], trace: Trace, folder: str) -> str:
@@ -124,9 +128,10 @@ def judged(program: str, subject: Subject, timing: str, certs: dict[str, str], t
     return "fits"
 
 
-def certified(program: str, subject: Subject, timing: str, tasks: list[str], folder: str) -> tuple[dict[str, int], dict[str, str]]:
+def certified(program: str, subject: Subject, timing: str, tasks: list[str], folder: str) -> Certified:
     """The bound of each task by the timing, and the paths of their certificates."""
-    bounds, certs = {}, {}
+    bounds: dict[str, int] = {}
+    certs: dict[str, str] = {}
     for task in tasks:
         text = asked(program, ["certify", *subject.files()[:2], timing, task, subject.states_file()])
         certs[task] = os.path.join(folder, f"{subject.name}.{task}.json")
@@ -168,8 +173,10 @@ def row(cells: list[str]) -> str:
 def cost_lines(found: dict[str, Measured]) -> list[str]:
     names = sorted({name for one in found.values() for name in one.costs.greatest})
     lines = [row(["Cost, cycles", *found]), row(["---"] * (1 + len(found)))]
-    return lines + [row([name, *(f"{one.costs.greatest[name]:,}" if name in one.costs.greatest else "-" for one in found.values())])
-                    for name in names]
+    for name in names:
+        costs = [one.costs.greatest.get(name) for one in found.values()]
+        lines.append(row([name, *("-" if cost is None else f"{cost:,}" for cost in costs)]))
+    return lines
 
 
 def response_lines(found: dict[str, Measured]) -> list[str]:
@@ -203,10 +210,10 @@ def fault_lines(program: str, found: dict[str, Measured], length: int, folder: s
     """The table of the faults, and how many aren't refuted that should be."""
     lines, missed = [row(["Fault", *found, "Refuted"]), row(["---"] * (2 + len(found)))], 0
     for fault in FAULTS:
-        cells = []
-        for subject in SUBJECTS:
-            is_there = subject.name in fault.systems
-            cells.append(verdict_on(program, fault, subject, found[subject.name], length, folder) if is_there else "-")
+        cells = ["-"] * len(SUBJECTS)
+        for place, subject in enumerate(SUBJECTS):
+            if subject.name in fault.systems:
+                cells[place] = verdict_on(program, fault, subject, found[subject.name], length, folder)
         is_refuted = any(cell.split()[0] in ("walk", "close", "over") for cell in cells)
         missed += fault.is_refuted and not is_refuted
         lines.append(row([f"`{fault.name}`: {fault.words}", *cells, "yes" if is_refuted else "no"]))
@@ -214,7 +221,7 @@ def fault_lines(program: str, found: dict[str, Measured], length: int, folder: s
 
 
 def options_of(words: list[str]) -> tuple[dict[str, int], str, bool]:
-    """The numbers, the path of the program and whether only the sound kernel runs. ValueError: the words are none of these."""
+    """The numbers, the program's path, whether only the sound kernel runs. ValueError: the words are none of these."""
     numbers, path, is_sound = dict(DEFAULTS), os.path.join(ROOT, "crates", "syswcet", "out", "syswcet"), False
     rest = list(words)
     while rest:
@@ -254,7 +261,8 @@ def main() -> int:
         for name, one in found.items():
             refused = [verdict for verdict in one.verdicts if verdict != "fits"]
             over = [task for task, response in one.responses.items() if response.activated > one.bounds[task]]
-            print(f"{name}: {len(one.verdicts)} recordings, {len(refused)} refused {' '.join(refused)}; responses above their bound: {len(over)}")
+            print(f"{name}: {len(one.verdicts)} recordings, not fitting: {', '.join(refused) or 'none'}; "
+                  f"tasks above their bound: {', '.join(over) or 'none'}")
             wrong += len(refused) + len(over)
         if not is_sound:
             lines, missed = fault_lines(program, found, options["--length"], folder)

@@ -3,15 +3,16 @@
 
     tools/measure_costs OIL ELF TIMING MARGIN TRACE .. [--instruction CYCLES]
 
-A TRACE is a recording of the kernel's events as docs/FORMATS.md has it, of any length. A service costs from the end of the instruction
-before its ECALL to the first instruction of what runs next, a taking from the end of the interrupted instruction: what the
-trap's entry and exit take is part of it, so START and END of each event have to lie there (docs/PORTING.md). The file is TIMING with
-the greatest cost of each service, of an alarm and of an interrupt in it, each greater by MARGIN percent, a whole number from 0 to
-1000. A service that no recording shows gets the greatest cost of those that were seen. With --instruction each instruction costs
-that many cycles, as in QEMU where one is one; without it classes and extra costs stay as TIMING has them.
+A TRACE is a recording of the kernel's events as docs/FORMATS.md has it, of any length. A service costs from the end of
+the instruction before its ECALL to the first instruction of what runs next, a taking from the end of the interrupted
+instruction: what the trap's entry and exit take is part of it, so START and END of each event have to lie there
+(docs/PORTING.md). The file is TIMING with the greatest cost of each service, of an alarm and of an interrupt in it,
+each greater by MARGIN percent, a whole number from 0 to 1000. A service that no recording shows gets the greatest cost
+of those that were seen. With --instruction each instruction costs that many cycles, as in QEMU where one is one;
+without it classes and extra costs stay as TIMING has them.
 
-What was measured goes to standard error, with how often it was seen. The greatest cost of a recording isn't the greatest cost that
-there is: the number is as good as the recordings and the margin.
+What was measured goes to standard error, with how often it was seen. The greatest cost of a recording isn't the
+greatest cost that there is: the number is as good as the recordings and the margin.
 """
 from __future__ import annotations
 
@@ -26,7 +27,8 @@ LARGEST = 1 << 20
 def shown(costs: Costs, margin: int) -> str:
     lines = [f"{'':<22}{'seen':>10}{'greatest':>10}   cycles"]
     lines += [f"{name:<22}{costs.seen[name]:>10,}{cost:>10,}" for name, cost in sorted(costs.greatest.items())]
-    lines.append(f"A measured greatest cost is no greatest cost: what no recording shows may take longer than it with {margin} % more.")
+    lines.append("A measured greatest cost is no greatest cost: what no recording shows may take longer than it, "
+                 f"with {margin} % more too.")
     return "\n".join(lines)
 
 

@@ -1,7 +1,8 @@
 """What recordings of a kernel show: how long its services and its takings took, and how long tasks took to respond.
 
-A recording is a trace as docs/FORMATS.md has it, of any length: a dictionary with `mode`, `events` and `end`. Moments and lengths are
-cycles. A service is known by the words before its ECALL. Services are taken as not misused, which `trace judge` tells.
+A recording is a trace as docs/FORMATS.md has it, of any length: a dictionary with `mode`, `events` and `end`. Moments
+and lengths are cycles. A service is known by the words before its ECALL. Services are taken as not misused, which
+`trace judge` tells.
 """
 from __future__ import annotations
 
@@ -14,10 +15,12 @@ from draw_trace import Image, System, read_oil
 
 Trace = dict[str, Any]
 NO_RETURN = ("TerminateTask", "ChainTask")
+SHAPES: dict[str, list[type]] = {"arrive": [str, int, str], "take": [str, int, int, str],
+                                 "service": [str, int, int, str, list, int]}
 
 
 class Response(NamedTuple):
-    """The greatest response of a task, from its activation and from the arrival of the source that led to it; how many ended."""
+    """The greatest response of a task, from its activation and from the arrival that led to it; how many ended."""
 
     activated: int
     arrived: int | None
@@ -55,8 +58,7 @@ def read_trace(program: str, path: str) -> Trace:
         with open(path, encoding="utf-8") as text:
             trace = json.load(text)
         for event in trace["events"]:
-            shape = {"arrive": [str, int, str], "take": [str, int, int, str], "service": [str, int, int, str, list, int]}[event[0]]
-            if [type(part) for part in event] != shape:
+            if [type(part) for part in event] != SHAPES[event[0]]:
                 raise ValueError
         if not isinstance(trace["end"], int) or not isinstance(trace["mode"], str):
             raise ValueError
@@ -90,8 +92,9 @@ class Costs:
             self.seen[name] = self.seen.get(name, 0) + 1
 
     def timing(self, base: dict[str, Any], margin: int, instruction: int | None) -> dict[str, Any]:
-        """The timing file with these costs, each greater by the margin of so many percent. What was never seen costs as much as the
-        costliest of its kind. With a cost for instructions each class costs that, and no place has an extra cost."""
+        """The timing file with these costs, each greater by the margin of so many percent. What was never seen costs
+        as much as the costliest of its kind. With a cost for instructions each class costs that, and no place has an
+        extra cost."""
         raised = {name: -(-cost * (100 + margin) // 100) for name, cost in self.greatest.items()}
         services = {name: cost for name, cost in raised.items() if name not in ("alarm", "interrupt")}
         takings = {name: cost for name, cost in raised.items() if name in ("alarm", "interrupt")}
@@ -108,7 +111,8 @@ class Costs:
 def responses_of(declared: Declared, trace: Trace) -> dict[str, Response]:
     """The greatest responses of the tasks that ended in the recording."""
     system, image = declared.system, declared.image
-    begun: dict[str, tuple[int, int | None]] = {task: (0, None) for task in system.tasks if trace["mode"] in system.starts[task]}
+    started = [task for task in system.tasks if trace["mode"] in system.starts[task]]
+    begun: dict[str, tuple[int, int | None]] = {task: (0, None) for task in started}
     pending: dict[str, int] = {}
     taken: dict[str, int | None] = {}
     found: dict[str, Response] = {}
@@ -144,5 +148,6 @@ def joined(one: dict[str, Response], other: dict[str, Response]) -> dict[str, Re
     for task, response in other.items():
         before = both.get(task, Response(0, None, 0))
         waits = [wait for wait in (before.arrived, response.arrived) if wait is not None]
-        both[task] = Response(max(before.activated, response.activated), max(waits, default=None), before.ended + response.ended)
+        activated, ended = max(before.activated, response.activated), before.ended + response.ended
+        both[task] = Response(activated, max(waits, default=None), ended)
     return both

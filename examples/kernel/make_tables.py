@@ -3,9 +3,10 @@
 
     make_tables.py OIL ELF TIMING [DEVICES]
 
-The OIL file says what there is, the symbols of the ELF file where contexts begin, and the timing file how long a tick of a counter is
-and how far apart interrupts come. DEVICES is the address of the page of devices, 0x40000000 if it isn't there. `./syswcet show code`
-judges the three files; this program reads what the kernel needs, and says where it can't serve a system.
+The OIL file says what there is, the symbols of the ELF file where contexts begin, and the timing file how long a tick
+of a counter is and how far apart interrupts come. DEVICES is the address of the page of devices, 0x40000000 if it isn't
+there. `./syswcet show code` judges the three files; this program reads what the kernel needs, and says where it can't
+serve a system.
 """
 from __future__ import annotations
 
@@ -111,7 +112,7 @@ class Tables:
         return self.symbols[symbol]
 
     def stack(self, name: str) -> int:
-        """The end of the context's stack: the symbol `Stack_NAME` of the program, or that of a page of its own with none around it."""
+        """The end of the context's stack: the symbol `Stack_NAME`, or the end of a page with none beside it."""
         if f"Stack_{name}" in self.symbols:
             return self.symbols[f"Stack_{name}"]
         address = STACKS + 2 * PAGE * sum(page.address >= STACKS for page in self.pages)
@@ -138,7 +139,7 @@ class Tables:
         block = self.alarms[name]
         tick = self.ticks.get(values(block, "COUNTER")[0], 0)
         if tick % TICK or not tick:
-            raise Unserved(f"a tick of the counter of {name} is no multiple of {TICK} cycles, which QEMU's timer counts by")
+            raise Unserved(f"a tick of the counter of {name} isn't a multiple of {TICK} cycles, a tick of QEMU's timer")
         is_set, start = first_block(block, "AUTOSTART")
         times = [int((values(start, key) or ["0"])[0], 0) * tick for key in ("ALARMTIME", "CYCLETIME")]
         if max(times) >= 1 << 31:
@@ -158,8 +159,8 @@ class Tables:
             "struct alarm_table alarm_tables": [self.alarm(name) for name in self.alarms],
             "unsigned ceilings": [f"{self.rank[system.ceiling[name]]}, /* {name} */" for name in system.resources],
         }
-        counts = {"task": len(system.tasks), "isr": len(system.isrs), "alarm": len(self.alarms), "resource": len(system.resources),
-                  "page": len(self.pages)}
+        counts = {"task": len(system.tasks), "isr": len(system.isrs), "alarm": len(self.alarms),
+                  "resource": len(system.resources), "page": len(self.pages)}
         lines = ['#include "kernel.h"', ""]
         lines += [f"const unsigned {name}_count = {count};" for name, count in counts.items()]
         lines += [f"const unsigned devices_address = {devices:#x};", ""]
@@ -168,8 +169,8 @@ class Tables:
         for place, page in enumerate(self.pages):
             if page.data:
                 lines.append(f"static const unsigned char bytes_{place}[] = {{")
-                lines += ["    " + ", ".join(map(str, page.data[at:at + 24])) + "," for at in range(0, len(page.data), 24)]
-                lines.append("};")
+                parts = [page.data[at:at + 24] for at in range(0, len(page.data), 24)]
+                lines += [*("    " + ", ".join(map(str, part)) + "," for part in parts), "};"]
         lines += ["", "const struct page_table pages[] = {"]
         lines += [f"    {self.page(place, page)}" for place, page in enumerate(self.pages)] + ["};", ""]
         return "\n".join(lines)
@@ -181,7 +182,7 @@ def main() -> int:
         print(__doc__, file=sys.stderr)
         return 2
     try:
-        with open(words[0], encoding="latin-1") as oil, open(words[1], "rb") as elf, open(words[2], encoding="utf-8") as timing:
+        with open(words[0], encoding="latin-1") as oil, open(words[1], "rb") as elf, open(words[2], "rb") as timing:
             tables = Tables(read_oil(oil.read()), read_program(elf.read()), json.load(timing))
         print(tables.text(int(words[3], 0) if len(words) == 4 else 0x40000000), end="")
     except Unserved as fault:
@@ -191,7 +192,8 @@ def main() -> int:
         print(f"make_tables: {fault.filename}: {fault.strerror}", file=sys.stderr)
         return 1
     except (AttributeError, IndexError, KeyError, TypeError, ValueError, struct.error):
-        print("make_tables: one of the files isn't what its place is for; `./syswcet show code` says what is wrong with it", file=sys.stderr)
+        print("make_tables: one of the files isn't what its place is for; `./syswcet show code` says what is wrong",
+              file=sys.stderr)
         return 1
     return 0
 

@@ -4,10 +4,11 @@
     run_kernel.py responses OIL ELF TIMING KERNEL [--seed N] [--length CYCLES]
     run_kernel.py trace OIL ELF TIMING KERNEL [--seed N] [--length CYCLES]
 
-`responses` prints for each task how often it ended and the most cycles that it took, from its activation and from the arrival of the
-alarm or the interrupt that led to it. `trace` writes the recording to standard output, as `trace judge` reads it. KERNEL is what
-make builds. With seed 0 alarms come as the OIL file says and interrupts at their least distance; any other seed draws when each of
-them comes first and how interrupts go on. The length is 30,000,000 cycles if it isn't there, and at most 2,000,000,000.
+`responses` prints for each task how often it ended and the most cycles that it took, from its activation and from the
+arrival of the alarm or the interrupt that led to it. `trace` writes the recording to standard output, as `trace judge`
+reads it. KERNEL is what make builds. With seed 0 alarms come as the OIL file says and interrupts at their least
+distance; any other seed draws when each of them comes first and how interrupts go on. The length is 30,000,000 cycles
+if it isn't there, and at most 2,000,000,000.
 """
 from __future__ import annotations
 
@@ -26,7 +27,8 @@ sys.path.insert(0, os.path.join(HERE, "..", "..", "tools"))
 from recordings import Declared, Response, Trace, read_declared, responses_of, told  # noqa: E402
 
 QEMU = "qemu-system-riscv32"
-MACHINE = ["-M", "virt", "-bios", "none", "-icount", "shift=0,sleep=off", "-rtc", "clock=vm", "-display", "none", "-monitor", "none"]
+MACHINE = ["-M", "virt", "-bios", "none", "-icount", "shift=0,sleep=off", "-rtc", "clock=vm",
+           "-display", "none", "-monitor", "none"]
 SCRIPT_ADDRESS = 0x80FF0000
 MAGIC = 0x4F53454B
 MOST_ALARMS, MOST_ISRS, MOST_TASKS, GAPS, RING = 16, 8, 16, 1024, 65536
@@ -64,15 +66,16 @@ class Unread(Exception):
 
 
 def drawn_script(seed: int, length: int, declared: Declared) -> Script:
-    """The script of a seed: interrupts come as close as they may, with a jitter, or in bursts with pauses between them."""
+    """The script of a seed: interrupts come as close as they may, with a jitter, or in bursts with pauses between."""
     alarms, isrs = len(declared.system.alarms), declared.system.isrs
     if seed == 0:
         return Script(length, 0, [0] * alarms, [0] * len(isrs), [0] * GAPS)
     draw = random.Random(seed)
     span = max([1000, *declared.timing.get("distances", {}).values()])
-    jitter = [lambda: 0, lambda: draw.randrange(span), lambda: 0 if draw.randrange(8) else draw.randrange(8 * span)][seed % 3]
+    spreads = [lambda: 0, lambda: draw.randrange(span), lambda: 0 if draw.randrange(8) else draw.randrange(8 * span)]
+    gaps = [spreads[seed % 3]() for _ in range(GAPS)]
     phases = [100 * draw.randrange(1000) for _ in range(alarms)]
-    return Script(length, draw.randrange(1 << 31), phases, [draw.randrange(span) for _ in isrs], [jitter() for _ in range(GAPS)])
+    return Script(length, draw.randrange(1 << 31), phases, [draw.randrange(span) for _ in isrs], gaps)
 
 
 def read_recording(data: bytes) -> Recording:
@@ -80,10 +83,11 @@ def read_recording(data: bytes) -> Recording:
         raise Unread("the kernel wrote no recording")
     _, cause, address, value, zero, last, recorded, kept = struct.unpack_from("<8I", data)
     if cause:
-        raise Unread(f"the kernel stopped at a trap that nobody awaits: cause {cause:#x} at {address:#x}, value {value:#x}")
+        raise Unread(f"the kernel stopped at a trap of cause {cause:#x}, at {address:#x}, with the value {value:#x}")
     if len(data) != 32 + 16 * kept:
         raise Unread("the recording is cut")
-    return Recording(zero, last, recorded, [(what, start, end, place) for what, start, end, place in struct.iter_unpack("<4I", data[32:])])
+    events = [(what, start, end, place) for what, start, end, place in struct.iter_unpack("<4I", data[32:])]
+    return Recording(zero, last, recorded, events)
 
 
 def played(kernel: str, script: Script, seconds: int = 600) -> Recording:
@@ -95,7 +99,8 @@ def played(kernel: str, script: Script, seconds: int = 600) -> Recording:
         words = [QEMU, *MACHINE, "-serial", f"file:{serial}", "-kernel", kernel,
                  "-device", f"loader,file={bench},addr={SCRIPT_ADDRESS:#x},force-raw=on"]
         try:
-            done = subprocess.run(words, stdin=subprocess.DEVNULL, capture_output=True, text=True, timeout=seconds, check=False)
+            done = subprocess.run(words, stdin=subprocess.DEVNULL, capture_output=True, text=True, timeout=seconds,
+                                  check=False)
         except subprocess.TimeoutExpired as late:
             raise Unread(f"the run didn't end within {seconds} s") from late
         if done.returncode:
@@ -105,9 +110,10 @@ def played(kernel: str, script: Script, seconds: int = 600) -> Recording:
 
 
 def trace_of(declared: Declared, recording: Recording) -> Trace:
-    """The recording as a trace: each arrival at its own moment, in its place among the events, and no more events than a trace has."""
+    """The recording as a trace: each arrival at its moment, in its place among the events; as many as a trace has."""
     if recording.recorded > RING:
-        raise Unread(f"the ring holds the last {RING} of {recording.recorded} events, and a trace begins at moment 0: take a shorter run")
+        raise Unread(f"the ring holds the last {RING} of {recording.recorded} events, and a trace begins at moment 0: "
+                     "take a shorter run")
     system = declared.system
     contexts = dict(enumerate(system.tasks)) | dict(enumerate(system.isrs, MOST_TASKS))
     sources = dict(enumerate(system.alarms)) | dict(enumerate(system.isrs, MOST_ALARMS))
@@ -162,7 +168,8 @@ def main() -> int:
     except (IndexError, ValueError):
         words = []
         seed, length = 0, LENGTH
-    if len(words) != 5 or words[0] not in ("responses", "trace") or not 0 <= seed < 1 << 31 or not 0 < length <= MOST_LENGTH:
+    is_command = len(words) == 5 and words[0] in ("responses", "trace")
+    if not is_command or not 0 <= seed < 1 << 31 or not 0 < length <= MOST_LENGTH:
         print(__doc__, file=sys.stderr)
         return 2
     if not shutil.which(QEMU):
@@ -172,7 +179,8 @@ def main() -> int:
         trace = trace_of(declared, played(words[4], drawn_script(seed, length, declared)))
     except Unread as fault:
         told("run_kernel", str(fault))
-    sys.stdout.write(text_of(trace) if words[0] == "trace" else table(declared.system.tasks, responses_of(declared, trace)))
+    is_trace = words[0] == "trace"
+    sys.stdout.write(text_of(trace) if is_trace else table(declared.system.tasks, responses_of(declared, trace)))
     return 0
 
 
