@@ -69,7 +69,7 @@ fn promises_of(alloc: Global, system: &System, value: &Value) -> Result<Promises
 }
 
 fn latencies_in(alloc: Global, table: Option<&Value>) -> Result<NamedNumbers, PromisesFault>
-    ensures { Gives result (words.latencies_in (option_map (λ table. view table.now) table)) }
+    ensures { Gives result (words.latencies_in (option_map (λ t. view t.now) table.entry)) }
 {
     match table {
         Some(table) => told_as(
