@@ -80,14 +80,14 @@ context_ended_now system mode context event earlier =
     if is_this context (ended_by event) then option_map (lasting_from true (event ∷ earlier)) (active_since system mode context earlier)
     else None
 
--- those that have ended, in the order of their ends, the newest first
+-- those that have ended, the newest first
 abbrev pub context_ended_in : System → ℕ → Context → List Event → List ContextActivation
 context_ended_in system mode context [] = []
 context_ended_in system mode context (event ∷ earlier) =
     option_to_list (context_ended_now system mode context event earlier) ++ context_ended_in system mode context earlier
 
--- all of them: in the order of their ends, then the one that hasn't ended
+-- all of them: the one that hasn't ended, then those that have, the newest first
 abbrev pub activations_of : System → ℕ → Context → List Event → List ContextActivation
 activations_of system mode context events =
-    reverse (context_ended_in system mode context events)
-    ++ option_to_list (option_map (lasting_from false events) (active_since system mode context events))
+    option_to_list (option_map (lasting_from false events) (active_since system mode context events))
+    ++ context_ended_in system mode context events
