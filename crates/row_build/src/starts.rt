@@ -2,7 +2,6 @@
 
 ghost use Rattle.std.specs.Prelude.{◌≡◌, ◌<◌, [], ◌∷◌, All, IfOk, OnOk, filter, length, map, if◌then◌else◌};
 ghost use Rattle.std.specs.List.{range_with_len};
-ghost use Rattle.osek_kernel.specs.declared.context.Context.TheVariants as contexts;
 ghost use Rattle.scheduler_moves.specs.Closed.{IsClosed};
 ghost use Rattle.scheduler_moves.specs.Moves as moves;
 ghost use Rattle.row_build.specs.Columns as words;
@@ -21,7 +20,7 @@ use std::alloc::Global;
 use std::collections::BTreeMap;
 use wcet_atomic_blocks::Plant;
 
-/// The starts of the task's activations: modes in order, then moves by state and place.
+/// The starts of the subject's activations: modes in order, then moves by state and place.
 pub(crate) fn starts(
     alloc: Global,
     plant: &Plant,
@@ -29,7 +28,7 @@ pub(crate) fn starts(
     numbers: &BTreeMap<AbsState, usize>,
     running: &[Option<Context>],
     goings: &[NumberedMove],
-    task: usize,
+    subject: Context,
 ) -> Result<NumberedStarts, Memory>
     requires closed { IsClosed plant.now states.now }
     requires numbers { AreNumbers numbers.now states.now (length states.now) }
@@ -37,32 +36,32 @@ pub(crate) fn starts(
     requires goings { Stand (going_of states.now) (IsMove states.now) goings.now
         (words.goings plant.now states.now) }
     ensures { IfOk result (λ found. Stand (start_of states.now) (IsStart plant.now states.now)
-        found (words.starts plant.now states.now task)) }
+        found (words.starts plant.now states.now subject)) }
 {
     let mut found = NumberedStarts::new(alloc);
-    push_modes(alloc, plant, states, numbers, task, &mut found)?;
-    push_activating(plant, states, running, goings, task, &mut found)?;
+    push_modes(alloc, plant, states, numbers, subject, &mut found)?;
+    push_activating(plant, states, running, goings, subject, &mut found)?;
     Ok(found)
 }
 
-/// Adds the modes in which the task is active from the start on.
+/// Adds the modes in which the subject is active from the start on.
 fn push_modes(
     alloc: Global,
     plant: &Plant,
     states: &[AbsState],
     numbers: &BTreeMap<AbsState, usize>,
-    task: usize,
+    subject: Context,
     found: &mut NumberedStarts,
 ) -> Result<(), Memory>
     requires closed { IsClosed plant.now states.now }
     requires numbers { AreNumbers numbers.now states.now (length states.now) }
     ensures { OnOk result (Adds (start_of states.now) (IsStart plant.now states.now) found.old
         found.new (map words.In (filter
-        (λ mode. words.is_active_in (moves.initial plant.now mode) (contexts.Task task))
+        (λ mode. words.is_active_in (moves.initial plant.now mode) subject)
         (range_with_len 0 (length plant.now.system.modes))))) }
 {
     for mode in 0..plant.system.modes.len() {
-        push_mode(alloc, plant, states, numbers, task, mode, found)?;
+        push_mode(alloc, plant, states, numbers, subject, mode, found)?;
     }
     Ok(())
 }
@@ -72,7 +71,7 @@ fn push_mode(
     plant: &Plant,
     states: &[AbsState],
     numbers: &BTreeMap<AbsState, usize>,
-    task: usize,
+    subject: Context,
     mode: usize,
     found: &mut NumberedStarts,
 ) -> Result<(), Memory>
@@ -81,34 +80,34 @@ fn push_mode(
     requires numbers { AreNumbers numbers.now states.now (length states.now) }
     ensures { OnOk result (Adds (start_of states.now) (IsStart plant.now states.now) found.old
         found.new (map words.In
-        (if words.is_active_in (moves.initial plant.now mode) (contexts.Task task)
+        (if words.is_active_in (moves.initial plant.now mode) subject
         then mode ∷ [] else []))) }
 {
     let state = initial(alloc, plant, mode)?;
-    if is_active_in(&state, Context::Task(task)) {
+    if is_active_in(&state, subject) {
         let after = number_of(numbers, states, &state);
         found.push(NumberedStart::In { mode, after })?;
     }
     Ok(())
 }
 
-/// Adds the moves that activate the task.
+/// Adds the moves that activate the subject.
 fn push_activating(
     plant: &Plant,
     states: &[AbsState],
     running: &[Option<Context>],
     goings: &[NumberedMove],
-    task: usize,
+    subject: Context,
     found: &mut NumberedStarts,
 ) -> Result<(), Memory>
     requires running { AreRunning plant.now states.now running.now }
     requires goings { All (IsMove states.now) goings.now }
     ensures { OnOk result (Adds (start_of states.now) (IsStart plant.now states.now) found.old
-        found.new (map words.By (filter (words.activates plant.now (contexts.Task task))
+        found.new (map words.By (filter (words.activates plant.now subject)
         (map (going_of states.now) goings.now)))) }
 {
     for place in 0..goings.len() {
-        push_if_activating(plant, states, running, goings[place], task, found)?;
+        push_if_activating(plant, states, running, goings[place], subject, found)?;
     }
     Ok(())
 }
@@ -118,17 +117,17 @@ fn push_if_activating(
     states: &[AbsState],
     running: &[Option<Context>],
     going: NumberedMove,
-    task: usize,
+    subject: Context,
     found: &mut NumberedStarts,
 ) -> Result<(), Memory>
     requires running { AreRunning plant.now states.now running.now }
     requires within { IsMove states.now going }
     ensures { OnOk result (Adds (start_of states.now) (IsStart plant.now states.now) found.old
         found.new (map words.By
-        (if words.activates plant.now (contexts.Task task) (going_of states.now going)
+        (if words.activates plant.now subject (going_of states.now going)
         then going_of states.now going ∷ [] else []))) }
 {
-    if activates(plant, states, running, Context::Task(task), going) {
+    if activates(plant, states, running, subject, going) {
         found.push(NumberedStart::By { going })?;
     }
     Ok(())
