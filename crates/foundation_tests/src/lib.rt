@@ -5,6 +5,8 @@
 #[cfg(test)]
 mod elf_image_calls;
 #[cfg(test)]
+mod row_squeeze_calls;
+#[cfg(test)]
 mod rv32_decode_calls;
 #[cfg(test)]
 mod rv32_machine_calls;

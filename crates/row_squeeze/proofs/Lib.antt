@@ -14,5 +14,3 @@ pub mod Order
 pub mod Lifting
 pub mod Covers
 pub mod Parts
-pub mod Tested
-pub mod Samples

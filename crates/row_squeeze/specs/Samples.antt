@@ -56,10 +56,3 @@ squeezed_case : squeezed_of task_rows task_links ≡ record {
   rights = pos 1 ∷ pos 0 ∷ pos 0 ∷ pos 0 ∷ pos 0 ∷ pos 0 ∷ pos 0 ∷ pos 0 ∷ pos 0 ∷ pos 0 ∷ pos 0 ∷ pos 0 ∷ pos 2000 ∷ [];
 }
 squeezed_case = refl
-
--- two columns of cost 1, of which the second is at most the first: their cost has no bound
-abbrev pub loose_rows : RowsData
-loose_rows = record { costs = pos 1 ∷ pos 1 ∷ []; rows = (negsuc 0 ∷ pos 1 ∷ []) ∷ []; rights = pos 0 ∷ [] }
-
-abbrev pub loose_links : List (Option Link)
-loose_links = Some (record { outgoing = 1; incoming = 0 }) ∷ []

@@ -60,6 +60,3 @@ impl From<Memory> for LiftFault {
         LiftFault::Memory
     }
 }
-
-#[cfg(test)]
-mod tests;
