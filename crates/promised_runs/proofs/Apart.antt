@@ -1,5 +1,6 @@
 -- Takings of a source lie apart, since its arrivals do and wait no longer than is promised.
-use Rattle.std.proofs.Common.{◌≡◌, ℕ, zero, suc, ◌+◌, ◌*◌, ◌≤◌, Bool, true, false, cond, List, [], ◌∷◌, ◌++◌, Contains, Option, Some, None, refl, sym, ◌∙◌, ap, subst, arith, mul-suc, append-nil}
+use Rattle.std.proofs.Common.{◌≡◌, ℕ, zero, suc, ◌+◌, ◌*◌, ◌≤◌, Bool, true, false, cond, List, [], ◌∷◌, ◌++◌, Contains, Option, Some, None, refl}
+use Rattle.std.proofs.Common.{sym, ◌∙◌, ap, subst, arith, mul-suc, append-nil}
 use Rattle.std.specs.Prelude.{◌==◌, nat_lt, unwrap_or}
 use Rattle.std.specs.List.{AllByRecursion}
 use Rattle.std.proofs.lemmas.Bool.{eqb-true}
@@ -16,8 +17,8 @@ use Rattle.osek_machine.specs.Declarations.{IsInTime, arrivals_of, distance_of, 
 use Rattle.osek_machine.specs.Runs.{IsRun}
 use Rattle.osek_machine.specs.Steps.{Arrives, Takes}
 use Rattle.promised_runs.specs.Promised.{WaitsWithin, IsPromised, pending_since}
-use Rattle.promised_runs.specs.Apart.{KeepsPromises, TakingsLieApart, FirstTakingsLieApart, lesser, takings, wait_of}
-use Rattle.osek_machine.proofs.Calendar.{begun_at, begun_before, in_calendar, waits}
+use Rattle.promised_runs.specs.Apart.{KeepsPromises, TakingsLieApart, FirstTakingsLieApart, lesser, takings}
+use Rattle.osek_machine.proofs.Calendar.{begun_at, in_calendar, waits}
 
 -- ---- Beginnings of a run
 
@@ -367,7 +368,8 @@ back : (image : ImageData) (system : System) (timing : Timing) (promises : Promi
 back image system timing promises mode source spare wait [] earlier state slack keeps = record {
   after = omega arith;
   begun = λ some. absurd (omega arith);
-  last = λ later many. here_apart image system timing promises mode source spare wait earlier state slack keeps (waits source earlier) refl later (omega arith);
+  last = λ later many.
+      here_apart image system timing promises mode source spare wait earlier state slack keeps (waits source earlier) refl later (omega arith);
 }
 back image system timing promises mode source spare wait (Arrive arrival ∷ recent) earlier state slack keeps =
     arrives_back image system timing promises mode source spare wait (takings source recent) (duration earlier) arrival (recent ++ earlier) state slack keeps

@@ -1,5 +1,5 @@
 -- How often a source is taken in some time: its arrivals lie apart, and each of them waits no longer than is promised.
-use Rattle.std.specs.Prelude.{◌≡◌, ℕ, ◌+◌, ◌*◌, ◌≤◌, ◌==◌, nat_lt, List, [], ◌∷◌, ◌++◌, Option, Some, None, if◌then◌else◌}
+use Rattle.std.specs.Prelude.{ℕ, ◌+◌, ◌*◌, ◌≤◌, ◌==◌, nat_lt, List, [], ◌∷◌, ◌++◌, Option, Some, None, if◌then◌else◌}
 use Rattle.oil_model.specs.declared.system.System.{System}
 use Rattle.elf_image.specs.Image.{ImageData}
 use Rattle.osek_kernel.specs.Sources.{source_at}

@@ -2,8 +2,8 @@
 -- the kinds are listed, is the fault.
 use Rattle.std.specs.Prelude.{ℕ, ◌-◌, ◌^◌, List, [], ◌∷◌, ◌&&◌, ◌||◌, not, Bool, bytes_eq, codes, if◌then◌else◌, Option, Some, None, Result, Ok, Err, ◌≡◌, refl}
 use Rattle.std.specs.List.{list_any}
-use Rattle.serde_json.specs.Data.{Data, Members, no_members, member, object, number, string, unsigned}
-use Rattle.serde_json.specs.Find.{get, as_object}
+use Rattle.serde_json.specs.Data.{Data, no_members, member, object, number, string, unsigned}
+use Rattle.serde_json.specs.Find.{get}
 use Rattle.listed.specs.Faults.{told_as}
 use Rattle.listed.specs.Steps.{◌>>=◌}
 use Rattle.json_fields.specs.Forms.{is_number}
