@@ -444,6 +444,7 @@ takings_lie_apart image system timing promises mode taking recent earlier state 
     chosen latency is true = now_apart image system timing promises mode taking recent earlier state 1 latency (takings taking.source recent)
         (promised latency is) keeps (omega arith)
     chosen latency is false = unpromised_apart image system timing promises mode taking recent earlier state keeps
+
     choose : (latency : Option ℕ) → latency_of system promises (source_at system taking.source) ≡ latency
         → duration earlier + distance_of system timing (source_at system taking.source) * takings taking.source recent
         ≤ duration (recent ++ earlier) + lesser (distance_of system timing (source_at system taking.source)) latency

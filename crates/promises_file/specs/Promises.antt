@@ -65,7 +65,7 @@ nothing system = refl
 of_all : (system : System)
     → promises_in system (object (member (codes "latencies") (object (member (codes "default") (number (unsigned 1200)) no_members)) no_members))
     ≡ (if keys_pass_at (is_plain system) (object (member (codes "latencies") (object (member (codes "default") (number (unsigned 1200)) no_members)) no_members))
-       then Ok (record { latencies = record { name = codes "default"; number = 1200 } ∷ [] }) else Err Twice)
+    then Ok (record { latencies = record { name = codes "default"; number = 1200 } ∷ [] }) else Err Twice)
 of_all system = refl
 
 no_cycles : (system : System)

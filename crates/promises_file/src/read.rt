@@ -41,12 +41,7 @@ impl Format for PromisesFormat<'_> {
 
     ghost gives = { λ format _ d. words.promises_in format.system.now d };
 
-    fn read(
-        &self,
-        alloc: Global,
-        _place: usize,
-        value: &Value,
-    ) -> Result<Promises, PromisesFault> {
+    fn read(&self, alloc: Global, _place: usize, value: &Value) -> Result<Promises, PromisesFault> {
         if !has_form(value) {
             return Err(Fault::Kind(PromisesKind::Shape));
         }
@@ -72,10 +67,7 @@ fn latencies_in(alloc: Global, table: Option<&Value>) -> Result<NamedNumbers, Pr
     ensures { Gives result (words.latencies_in (option_map (λ t. view t.now) table.entry)) }
 {
     match table {
-        Some(table) => told_as(
-            numbers_by_name(alloc, table, u32::MAX),
-            PromisesKind::Range,
-        ),
+        Some(table) => told_as(numbers_by_name(alloc, table, u32::MAX), PromisesKind::Range),
         None => Ok(NamedNumbers::new(alloc)),
     }
 }

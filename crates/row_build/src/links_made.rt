@@ -67,7 +67,15 @@ pub fn links_for(
     let starts = starts(alloc, plant, states, &numbers, running, goings, subject)?;
     let nodes = positions(alloc, plant, states, starts.as_slice(), subject)?;
     let nodes = nodes.as_slice();
-    let columns = columns(alloc, plant, states, goings, starts.as_slice(), nodes, subject)?;
+    let columns = columns(
+        alloc,
+        plant,
+        states,
+        goings,
+        starts.as_slice(),
+        nodes,
+        subject,
+    )?;
     of_columns(alloc, plant, states, nodes, columns.as_slice(), subject)
 }
 
@@ -90,7 +98,9 @@ fn of_columns(
     let instances = instances.as_slice();
     let backs = back_edges(alloc, instances)?;
     let seen = seen_in(alloc, plant, states, instances, &backs, columns)?;
-    of_seen(alloc, plant, states, instances, nodes, columns, subject, &seen)
+    of_seen(
+        alloc, plant, states, instances, nodes, columns, subject, &seen,
+    )
 }
 
 /// The links of the rows, by what is seen of the rows of nodes.

@@ -145,7 +145,14 @@ pub(crate) fn is_position(
     requires starts { All (IsStart plant.now states.now) starts.now }
     ensures { result ≡ words.is_position plant.now (map (start_of states.now) starts.now) subject node }
 {
-    any_stands(plant, states, starts, subject, node, plant.flow.context(node))
+    any_stands(
+        plant,
+        states,
+        starts,
+        subject,
+        node,
+        plant.flow.context(node),
+    )
 }
 
 fn any_stands(

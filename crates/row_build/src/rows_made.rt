@@ -58,7 +58,15 @@ pub fn rows_for(
     let starts = starts(alloc, plant, states, &numbers, running, goings, subject)?;
     let nodes = positions(alloc, plant, states, starts.as_slice(), subject)?;
     let nodes = nodes.as_slice();
-    let columns = columns(alloc, plant, states, goings, starts.as_slice(), nodes, subject)?;
+    let columns = columns(
+        alloc,
+        plant,
+        states,
+        goings,
+        starts.as_slice(),
+        nodes,
+        subject,
+    )?;
     of_columns(
         alloc,
         plant,
