@@ -1,5 +1,5 @@
 """The two halves of compare_decode: `words DIR` writes the words to be read, and `compare DIR` holds
-what objdump and tool_decode read against each other."""
+what objdump and tool_code read against each other."""
 
 import random
 import re

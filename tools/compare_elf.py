@@ -1,5 +1,5 @@
 """The two halves of compare_elf: `sources DIR` writes C programs and how they are linked, and
-`compare DIR` holds what objdump, nm and tool_elf read against each other."""
+`compare DIR` holds what objdump, nm and tool_code read against each other."""
 
 import re
 import sys

@@ -93,7 +93,9 @@ def first_block(block, name):
 
 class System:
     def __init__(self, objects):
-        of = lambda kind: [(name, block) for k, name, block in objects if k == kind]
+        def of(kind):
+            return [(name, block) for k, name, block in objects if k == kind]
+
         self.modes = [name for name, _ in of("APPMODE")]
         self.isrs = [name for name, _ in of("ISR")]
         self.tasks = [name for name, _ in of("TASK")]
@@ -127,7 +129,7 @@ class System:
 
 class Image:
     def __init__(self, data):
-        offset, size, count = struct.unpack_from("<I", data, 28)[0], *struct.unpack_from("<HH", data, 42)
+        (offset,), (size, count) = struct.unpack_from("<I", data, 28), struct.unpack_from("<HH", data, 42)
         self.parts = []
         for i in range(count):
             kind, at, address, _, length = struct.unpack_from("<5I", data, offset + i * size)
@@ -187,7 +189,10 @@ class Kernel:
     def serve(self, context, service, argument):
         """What the service ends and begins."""
         ended = begun = None
-        name = lambda names: names[argument] if argument < len(names) else None
+
+        def name(names):
+            return names[argument] if argument < len(names) else None
+
         if service in ("TerminateTask", "ChainTask") and context in self.active:
             del self.active[context]
             ended = context

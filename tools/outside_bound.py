@@ -21,8 +21,9 @@ import tempfile
 import time
 from fractions import Fraction
 
-ROOT = os.path.dirname(os.path.dirname(os.path.abspath(__file__)))
-SYSWCET = os.path.join(ROOT, "syswcet")
+from programs import ROOT, set_up
+
+SYSWCET = set_up("syswcet") or os.path.join(ROOT, "syswcet")
 LIMIT = 1 << 80
 # rounded multipliers: costs are raised by 1 / RAISE cycles, and the denominator is ROUND
 RAISE, ROUND = 1 << 20, 1 << 48
@@ -192,7 +193,7 @@ def main():
 def listed_states(files, path):
     """The path, to which the least closed list of states is written."""
     with open(path, "wb") as out:
-        done = subprocess.run([os.path.join(ROOT, "tools", "list_states"), *files], stdout=out, check=False)
+        done = subprocess.run([set_up("list_states") or os.path.join(ROOT, "tools", "list_states"), *files], stdout=out, check=False)
     if done.returncode:
         sys.exit("outside_bound: list_states gives no list")
     return path
@@ -200,11 +201,14 @@ def listed_states(files, path):
 
 def certified(files, cert_path):
     """Writes the certificate, and gives the status of its check."""
-    made = subprocess.run([os.path.join(ROOT, "tools", "built"), "list_rows"], stdout=subprocess.PIPE, text=True, check=False)
-    if made.returncode:
-        sys.exit("outside_bound: list_rows isn't there")
+    lister = set_up("list_rows")
+    if not lister:
+        made = subprocess.run([os.path.join(ROOT, "tools", "built"), "list_rows"], stdout=subprocess.PIPE, text=True, check=False)
+        if made.returncode:
+            sys.exit("outside_bound: list_rows isn't there")
+        lister = made.stdout.rstrip("\n")
     start = time.monotonic()
-    listed = subprocess.run([made.stdout.rstrip("\n"), *files, "full", "json"], capture_output=True, check=False)
+    listed = subprocess.run([lister, *files, "full", "json"], capture_output=True, check=False)
     if listed.returncode:
         sys.exit("outside_bound: list_rows: " + listed.stderr.decode())
     full = Rows(json.loads(listed.stdout))
@@ -230,8 +234,9 @@ def certified(files, cert_path):
     with open(files[4]) as text:
         states = json.load(text)
     cert = {"bound": str(bound), "denominator": str(denominator), "multipliers": [str(value) for value in multipliers], "states": states, "task": files[3]}
-    with open(cert_path, "w") as out:
+    with open(cert_path + ".part", "w") as out:
         out.write(json.dumps(cert, separators=(",", ":")) + "\n")
+    os.replace(cert_path + ".part", cert_path)
     start = time.monotonic()
     done = subprocess.run([SYSWCET, "check", *files[:4], cert_path], check=False)
     tell(f"check: {time.monotonic() - start:.1f} s, a certificate of {os.path.getsize(cert_path)} bytes")

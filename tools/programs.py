@@ -1,4 +1,4 @@
-"""The built programs, for the checks of this folder."""
+"""The built programs, for the tools and checks of this folder."""
 import os
 import shutil
 import subprocess
@@ -19,3 +19,22 @@ def built(check, name):
         print(f"{check}: skipped, since {name} isn't built from these sources and rt is not here")
         sys.exit(0)
     sys.exit(f"{check}: {name} doesn't build:\n{done.stderr}")
+
+
+def set_up(name):
+    """The path of the program of that name in the folder that SYSWCET_PROGRAMS names, or of an installed tree; None where it
+    isn't there."""
+    path = os.path.join(os.environ.get("SYSWCET_PROGRAMS") or os.path.join(ROOT, "programs"), name)
+    return path if os.access(path, os.X_OK) else None
+
+
+def found(name):
+    """The path of the program of that name, set up or as it was built last; None where it isn't there."""
+    path = os.path.join(ROOT, "crates", name, "out", name)
+    return set_up(name) or (path if os.access(path, os.X_OK) else None)
+
+
+def shared(*names):
+    """The path of a shared file, in the source tree or in an installed one."""
+    paths = [os.path.join(ROOT, "share", *names), os.path.join(os.path.dirname(os.path.dirname(ROOT)), "share", "syswcet", *names)]
+    return next((path for path in paths if os.path.exists(path)), paths[0])

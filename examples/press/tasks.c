@@ -1,6 +1,7 @@
 /* A press: Guard watches a light curtain, Stroke moves the press and lets others run only where it says so, Feed and
  * Oil use the belt, so that neither begins while the other goes on, and Feed ends by starting Clean, which goes before
  * it: so Clean has always ended when Feed starts it again. */
+#include "flow.h"
 #include "osek.h"
 #include "system.h"
 
@@ -28,10 +29,11 @@ TASK(Guard)
     TerminateTask();
 }
 
-static unsigned root(unsigned square)
+static inline unsigned root(unsigned square)
 {
     unsigned low = 0, high = 1u << 16;
     while (high - low > 1) {
+        LOOP_BOUND(16);
         unsigned middle = (low + high) / 2;
         if (middle * middle > square)
             high = middle;
@@ -44,6 +46,7 @@ static unsigned root(unsigned square)
 TASK(Stroke)
 {
     for (int i = 0; i < STEPS; i++) {
+        LOOP_BOUND(STEPS);
         DRIVE = profile[i];
         if (stopped)
             break;
@@ -58,6 +61,7 @@ TASK(Feed)
 {
     unsigned sum = 0;
     for (int i = 0; i < POINTS; i++) {
+        LOOP_BOUND(POINTS);
         unsigned at = BELT;
         if (at == 0)
             continue;
@@ -69,8 +73,10 @@ TASK(Feed)
 
 TASK(Oil)
 {
-    for (int i = 0; i < NOZZLES; i++)
+    for (int i = 0; i < NOZZLES; i++) {
+        LOOP_BOUND(NOZZLES);
         VALVE = 1u << i;
+    }
     TerminateTask();
 }
 

@@ -1,3 +1,4 @@
+#include "flow.h"
 #include "signals.h"
 
 enum { TAPS = 8 };
@@ -10,6 +11,7 @@ int filtered(int sample)
 {
     int sum = 0;
     for (int i = TAPS - 1; i > 0; i--) {
+        LOOP_BOUND(TAPS - 1);
         samples[i] = samples[i - 1];
         sum += weights[i] * samples[i];
     }
@@ -29,8 +31,10 @@ unsigned checked(const unsigned char *bytes, int count)
 {
     unsigned crc = ~0u;
     for (int i = 0; i < count; i++) {
+        LOOP_BOUND(8);
         crc ^= bytes[i];
         for (int bit = 0; bit < 8; bit++) {
+            LOOP_BOUND(8);
             if (crc & 1)
                 crc = (crc >> 1) ^ 0xedb88320u;
             else
@@ -46,10 +50,13 @@ int written(unsigned number, unsigned char *place)
     unsigned char digits[10];
     int count = 0;
     do {
+        LOOP_BOUND(10);
         digits[count++] = '0' + number % 10;
         number /= 10;
     } while (number != 0);
-    for (int i = 0; i < count; i++)
+    for (int i = 0; i < count; i++) {
+        LOOP_BOUND(10);
         place[i] = digits[count - 1 - i];
+    }
     return count;
 }

@@ -1,5 +1,6 @@
 /* A pump: Control keeps its pressure, Tooth and Speed measure how fast it turns, Report sends a frame, and Log
  * keeps a line of text. Control and Report share the bus. */
+#include "flow.h"
 #include "osek.h"
 #include "signals.h"
 #include "system.h"
@@ -46,6 +47,7 @@ TASK(Speed)
 static void put(unsigned char *place, unsigned value)
 {
     for (int i = 0; i < 4; i++) {
+        LOOP_BOUND(4);
         place[i] = (unsigned char)value;
         value >>= 8;
     }
@@ -57,8 +59,10 @@ TASK(Report)
     put(frame + 4, period);
     put(frame + 8, checked(frame, 8));
     GetResource(Bus);
-    for (int i = 0; i < FRAME; i++)
+    for (int i = 0; i < FRAME; i++) {
+        LOOP_BOUND(FRAME);
         LINE = frame[i];
+    }
     ReleaseResource(Bus);
     ActivateTask(Log);
     TerminateTask();

@@ -31,7 +31,9 @@ pub fn all_bounds<F: Files>(
         files.old result files.new }
 {
     let plant = plant_of(alloc, oil, elf, timing, files)?;
-    all_on(alloc, &plant, states, files)
+    let answered = all_on(alloc, &plant, states, files);
+    drop(plant);
+    answered
 }
 
 fn all_on<F: Files>(

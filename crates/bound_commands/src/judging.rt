@@ -23,7 +23,9 @@ pub fn checked<F: Files>(
         files.old result files.new }
 {
     let analysed = read_subject(alloc, subject, files)?;
-    check_on(alloc, &analysed, certificate, subject.name(), files)
+    let answered = check_on(alloc, &analysed, certificate, subject.name(), files);
+    drop(analysed);
+    answered
 }
 
 fn check_on<F: Files>(

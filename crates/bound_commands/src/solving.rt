@@ -40,7 +40,9 @@ pub fn bounded<F: Files>(
         files.old result files.new }
 {
     let analysed = read_subject(alloc, subject, files)?;
-    bound_on(alloc, &analysed, states, pivots, subject.name(), files)
+    let answered = bound_on(alloc, &analysed, states, pivots, subject.name(), files);
+    drop(analysed);
+    answered
 }
 
 fn bound_on<F: Files>(
@@ -129,7 +131,9 @@ pub fn certified<F: Files>(
         files.old result files.new }
 {
     let analysed = read_subject(alloc, subject, files)?;
-    certify_on(alloc, &analysed, states, pivots, subject.name(), files)
+    let answered = certify_on(alloc, &analysed, states, pivots, subject.name(), files);
+    drop(analysed);
+    answered
 }
 
 fn certify_on<F: Files>(

@@ -76,8 +76,14 @@ fn plant_with_timing<F: Files>(
     ensures { words.PlantWithTiming (IsCall F.outside F.reads) timing.now system image
         files.old result files.new }
 {
-    let timing = timing_file(alloc, timing, files)?;
-    plant_with(alloc, system, image, timing)
+    match timing_file(alloc, timing, files) {
+        Ok(timing) => plant_with(alloc, system, image, timing),
+        Err(halt) => {
+            drop(system);
+            drop(image);
+            Err(halt)
+        }
+    }
 }
 
 /// The image in the ELF file.
@@ -139,10 +145,18 @@ pub fn plant_with(
                 address,
             },
         ) => {
-            let refusal = fault_refusal(alloc, &system, kind, context, address)?;
-            Err(Halt::Refused(refusal))
+            let refusal = fault_refusal(alloc, &system, kind, context, address);
+            drop(system);
+            drop(image);
+            drop(timing);
+            Err(Halt::Refused(refusal?))
         }
-        Err(CodeFault::Memory) => Err(Halt::Memory),
+        Err(CodeFault::Memory) => {
+            drop(system);
+            drop(image);
+            drop(timing);
+            Err(Halt::Memory)
+        }
     }
 }
 

@@ -150,8 +150,14 @@ fn task_with_timing<F: Files>(
     ensures { words.TaskWithTiming (IsCall F.outside F.reads) timing.now task.now system image
         files.old result files.new }
 {
-    let timing = timing_file(alloc, timing, files)?;
-    task_of(alloc, system, image, timing, task)
+    match timing_file(alloc, timing, files) {
+        Ok(timing) => task_of(alloc, system, image, timing, task),
+        Err(halt) => {
+            drop(system);
+            drop(image);
+            Err(halt)
+        }
+    }
 }
 
 /// The task of this name in the plant of the three.
@@ -171,6 +177,11 @@ fn task_of(
             let plant = plant_with(alloc, system, image, timing)?;
             Ok(Analysed { plant, task })
         }
-        None => Err(Halt::Refused(task_refusal(alloc)?)),
+        None => {
+            drop(system);
+            drop(image);
+            drop(timing);
+            Err(Halt::Refused(task_refusal(alloc)?))
+        }
     }
 }

@@ -24,18 +24,17 @@ use oil_model::task_named;
 use row_squeeze::{Links, Squeezed, squeeze};
 use scheduler_moves::{Closure, closed};
 use std::alloc::Global;
-use std::io::{BufWriter, Write};
-use std::{env, io};
-use tool_files::{PlantNames, plant_in, states_in, word};
+use std::io::{self, BufWriter, Write};
+use tool_files::{plant_in, states_in, words};
 use wcet_atomic_blocks::Plant;
 
 const WORDS: &str = "OIL ELF TIMING TASK STATES [full] [json]";
 
 /// The words of a run behind the three files.
-#[derive(Drop)]
-struct Wanted {
-    task: String,
-    states: String,
+#[derive(Clone, Copy)]
+struct Wanted<'a> {
+    task: &'a str,
+    states: &'a str,
     /// The full rows are wanted.
     full: bool,
     /// JSON is wanted.
@@ -43,31 +42,49 @@ struct Wanted {
 }
 
 fn main(rt: HostRuntime) -> Result<()> {
-    let mut words = env::args(&rt)?.skip(1);
-    let names = PlantNames {
-        oil: word(words.next(), WORDS)?,
-        elf: word(words.next(), WORDS)?,
-        timing: word(words.next(), WORDS)?,
-    };
+    let words = words(&rt)?;
+    run(&rt, words.as_slice())
+}
+
+fn run(rt: &HostRuntime, words: &[String]) -> Result<()> {
+    match words {
+        [oil, elf, timing, behind @ ..] => {
+            let wanted = wanted_by(behind)?;
+            answer(rt, oil.as_str(), elf.as_str(), timing.as_str(), &wanted)
+        }
+        _ => Err(anyhow!("the words are {WORDS}")),
+    }
+}
+
+fn wanted_by(words: &[String]) -> Result<Wanted<'_>> {
+    match words {
+        [task, states, forms @ ..] => in_forms(task.as_str(), states.as_str(), forms),
+        _ => Err(anyhow!("the words are {WORDS}")),
+    }
+}
+
+fn in_forms<'a>(task: &'a str, states: &'a str, forms: &[String]) -> Result<Wanted<'a>> {
     let mut wanted = Wanted {
-        task: word(words.next(), WORDS)?,
-        states: word(words.next(), WORDS)?,
+        task,
+        states,
         full: false,
         json: false,
     };
-    for form in words {
+    for form in forms {
         match form.as_str() {
             "full" => wanted.full = true,
             "json" => wanted.json = true,
             _ => return Err(anyhow!("the words are {WORDS}")),
         }
     }
-    answer(&rt, &names, &wanted)
+    Ok(wanted)
 }
 
-fn answer(rt: &HostRuntime, names: &PlantNames, wanted: &Wanted) -> Result<()> {
-    let plant = plant_in(rt, names)?;
-    report(rt, &plant, wanted)
+fn answer(rt: &HostRuntime, oil: &str, elf: &str, timing: &str, wanted: &Wanted) -> Result<()> {
+    let plant = plant_in(rt, oil, elf, timing)?;
+    let done = report(rt, &plant, wanted);
+    drop(plant);
+    done
 }
 
 /// The rows of the task with their links.
@@ -92,8 +109,10 @@ fn report(rt: &HostRuntime, plant: &Plant, wanted: &Wanted) -> Result<()> {
 }
 
 fn report_task(rt: &HostRuntime, plant: &Plant, task: usize, wanted: &Wanted) -> Result<()> {
-    let states = states_in(rt, plant, wanted.states.as_str())?;
-    report_over(rt, plant, task, &states, wanted)
+    let states = states_in(rt, plant, wanted.states)?;
+    let done = report_over(rt, plant, task, &states, wanted);
+    drop(states);
+    done
 }
 
 fn report_over(
@@ -106,7 +125,9 @@ fn report_over(
     requires { differ same_state states.now ≡ true }
 {
     let linked = linked(rt.alloc(), plant, states, task)?;
-    report_rows(rt, plant, task, states, &linked, wanted)
+    let done = report_rows(rt, plant, task, states, &linked, wanted);
+    drop(linked);
+    done
 }
 
 fn report_rows(

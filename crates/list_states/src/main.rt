@@ -15,43 +15,50 @@ use listed::Fault;
 use osek_kernel::Context;
 use scheduler_moves::Misuse;
 use state_search::{Search, SearchFault, SearchKind, begin, ended, step};
-use std::env;
 use std::io::{self, BufWriter, Write};
-use tool_files::{PlantNames, plant_in, word};
+use tool_files::{plant_in, words};
 use wcet_atomic_blocks::Plant;
 
 const WORDS: &str = "OIL ELF TIMING [LIMIT]";
 
 fn main(rt: HostRuntime) -> Result<()> {
-    let mut words = env::args(&rt)?.skip(1);
-    let names = PlantNames {
-        oil: word(words.next(), WORDS)?,
-        elf: word(words.next(), WORDS)?,
-        timing: word(words.next(), WORDS)?,
-    };
-    let limit = limit_of(words.next())?;
-    answer(&rt, &names, limit)
+    let words = words(&rt)?;
+    run(&rt, words.as_slice())
 }
 
-/// The greatest number of states that are listed.
-fn limit_of(word: Option<String>) -> Result<usize> {
-    match word {
-        Some(word) => word
-            .as_str()
-            .parse::<usize>()
-            .map_err(|_| anyhow!("LIMIT is no number")),
-        None => Ok(1_000_000),
+fn run(rt: &HostRuntime, words: &[String]) -> Result<()> {
+    match words {
+        [oil, elf, timing, rest @ ..] => {
+            let limit = limit_of(rest)?;
+            answer(rt, oil.as_str(), elf.as_str(), timing.as_str(), limit)
+        }
+        _ => Err(anyhow!("the words are {WORDS}")),
     }
 }
 
-fn answer(rt: &HostRuntime, names: &PlantNames, limit: usize) -> Result<()> {
-    let plant = plant_in(rt, names)?;
-    report(rt, &plant, limit)
+/// The greatest number of states that are listed.
+fn limit_of(words: &[String]) -> Result<usize> {
+    match words {
+        [word, ..] => word
+            .as_str()
+            .parse::<usize>()
+            .map_err(|_| anyhow!("LIMIT is no number")),
+        [] => Ok(1_000_000),
+    }
+}
+
+fn answer(rt: &HostRuntime, oil: &str, elf: &str, timing: &str, limit: usize) -> Result<()> {
+    let plant = plant_in(rt, oil, elf, timing)?;
+    let done = report(rt, &plant, limit);
+    drop(plant);
+    done
 }
 
 fn report(rt: &HostRuntime, plant: &Plant, limit: usize) -> Result<()> {
     let states = listed(rt, plant, limit)?;
-    print_states(rt, &states)
+    let done = print_states(rt, &states);
+    drop(states);
+    done
 }
 
 /// The least closed list.

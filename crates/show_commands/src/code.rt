@@ -28,7 +28,9 @@ pub fn show_code<F: Files>(
         files.old result files.new }
 {
     let plant = plant_of(alloc, oil, elf, timing, files)?;
-    answer(alloc, &plant)
+    let answered = answer(alloc, &plant);
+    drop(plant);
+    answered
 }
 
 fn answer(alloc: Global, plant: &Plant) -> Result<Bytes, Halt>

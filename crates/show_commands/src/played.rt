@@ -28,7 +28,9 @@ pub fn replayed<F: Files>(
         files.old result files.new }
 {
     let plant = plant_of(alloc, oil, elf, timing, files)?;
-    replay_on(alloc, &plant, schedule, files)
+    let answered = replay_on(alloc, &plant, schedule, files);
+    drop(plant);
+    answered
 }
 
 fn replay_on<F: Files>(

@@ -27,7 +27,9 @@ pub fn split_checked<F: Files>(
         split.now files.old result files.new }
 {
     let analysed = read_task(alloc, oil, elf, timing, task, files)?;
-    check_on(alloc, &analysed, split, task.as_str(), files)
+    let answered = check_on(alloc, &analysed, split, task.as_str(), files);
+    drop(analysed);
+    answered
 }
 
 fn check_on<F: Files>(

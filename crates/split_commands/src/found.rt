@@ -43,7 +43,9 @@ pub fn split_found<F: Files>(
         states.now wanted.bound wanted.cuts files.old result files.new }
 {
     let analysed = read_task(alloc, oil, elf, timing, task, files)?;
-    find_on(alloc, &analysed, states, wanted, task.as_str(), files)
+    let answered = find_on(alloc, &analysed, states, wanted, task.as_str(), files);
+    drop(analysed);
+    answered
 }
 
 fn find_on<F: Files>(

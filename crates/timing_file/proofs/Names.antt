@@ -11,12 +11,13 @@ use Rattle.std.proofs.lemmas.Cmp.{nat_list_cmp_total, tied_itself}
 use Rattle.std.proofs.lemmas.Slice.Eq.{bytes_eq-Decides}
 use Rattle.serde_json.specs.View.{view, members_view}
 use Rattle.serde_json.specs.declared.value.Value.{Value}
+use Rattle.json_fields.specs.Numbers.{whole_in}
 use Rattle.listed.specs.Lists.{differ}
 use Rattle.listed.specs.Steps.{◌>>=◌}
 use Rattle.timing_file.specs.declared.fault.TimingKind.{TimingKind}
 use Rattle.timing_file.specs.declared.fault.TimingKind.TheVariants.{Range}
 use Rattle.timing_file.specs.declared.timing.NamedNumber.{NamedNumber}
-use Rattle.timing_file.specs.Timing.{named, number_in, numbers_of}
+use Rattle.timing_file.specs.Timing.{named, numbers_of}
 use Rattle.timing_file.specs.Lawful.{names_of, is_before, ascend}
 
 -- ---- names that ascend stand once
@@ -49,12 +50,12 @@ first_names e es (Ok n) (Ok ns) h = ap (λ names. string_bytes e.0 ∷ names) h
 first_names e es (Ok n) (Err kind) h = tt
 first_names e es (Err kind) more h = tt
 
-all_names : (es : List (String Global × Value)) → IfOk (numbers_of (members_view es)) (λ ns. names_of ns ≡ map string_bytes (keys_of es))
-all_names [] = refl
-all_names (e ∷ es) = first_names e es (ok_or (number_in (view e.1)) Range) (numbers_of (members_view es)) (all_names es)
+all_names : (greatest : ℕ) (es : List (String Global × Value)) → IfOk (numbers_of greatest (members_view es)) (λ ns. names_of ns ≡ map string_bytes (keys_of es))
+all_names greatest [] = refl
+all_names greatest (e ∷ es) = first_names e es (ok_or (whole_in 1 greatest (view e.1)) Range) (numbers_of greatest (members_view es)) (all_names greatest es)
 
-names_read : (es : List (String Global × Value)) (ns : List NamedNumber) → numbers_of (members_view es) ≡ Ok ns → names_of ns ≡ map string_bytes (keys_of es)
-names_read es ns is = subst (λ x. IfOk x (λ ms. names_of ms ≡ map string_bytes (keys_of es))) is (all_names es)
+names_read : (greatest : ℕ) (es : List (String Global × Value)) (ns : List NamedNumber) → numbers_of greatest (members_view es) ≡ Ok ns → names_of ns ≡ map string_bytes (keys_of es)
+names_read greatest es ns is = subst (λ x. IfOk x (λ ms. names_of ms ≡ map string_bytes (keys_of es))) is (all_names greatest es)
 
 above : (k : String Global) (ks : List (String Global)) → AllByRecursion (λ y. string_cmp k y ≡ Less) ks → list_all (is_before (string_bytes k)) (map string_bytes ks) ≡ true
 above k [] less = refl
@@ -65,5 +66,5 @@ unfolding IsStrictlySortedBy
 keys_ascend [] sorted = refl
 keys_ascend (k ∷ ks) sorted = and_from (list_all (is_before (string_bytes k)) (map string_bytes ks)) (ascend (map string_bytes ks)) (above k ks sorted.0) (keys_ascend ks sorted.1)
 
-pub names_ascend : (es : List (String Global × Value)) (ns : List NamedNumber) → IsStrictlySortedBy string_cmp (keys_of es) → numbers_of (members_view es) ≡ Ok ns → ascend (names_of ns) ≡ true
-names_ascend es ns sorted is = ap ascend (names_read es ns is) ∙ keys_ascend (keys_of es) sorted
+pub names_ascend : (greatest : ℕ) (es : List (String Global × Value)) (ns : List NamedNumber) → IsStrictlySortedBy string_cmp (keys_of es) → numbers_of greatest (members_view es) ≡ Ok ns → ascend (names_of ns) ≡ true
+names_ascend greatest es ns sorted is = ap ascend (names_read greatest es ns is) ∙ keys_ascend (keys_of es) sorted

@@ -34,6 +34,12 @@ abbrev pub ascend : List (List ℕ) → Bool
 ascend [] = true
 ascend (name ∷ names) = list_all (is_before name) names && ascend names
 
+-- numbers from 1 to the greatest, whose names stand in byte order, each once
+pub record AreUpTo (greatest : ℕ) (numbers : List NamedNumber) : Type 0 where
+  pub range : All (λ named. (1 ≤ named.number) × (named.number ≤ greatest)) numbers
+  pub order : ascend (names_of numbers) ≡ true
+  pub once : differ bytes_eq (names_of numbers) ≡ true
+
 -- the names stand in byte order, each once
 pub record AreNumbers (numbers : List NamedNumber) : Type 0 where
   pub range : All IsInRange numbers

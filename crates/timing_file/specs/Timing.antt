@@ -20,22 +20,23 @@ use Rattle.timing_file.specs.Ranges.{ranged_at}
 
 -- ---- numbers by name
 
--- 1 to 2^31 - 1
-abbrev pub number_in : Data → Option ℕ
-number_in d = whole_in 1 (2 ^ 31 - 1) d
+-- the greatest distance, and the greatest number of cycles a tick
+abbrev pub greatest_distance : ℕ
+greatest_distance = 2 ^ 31 - 1
 
 abbrev pub named : List ℕ → ℕ → NamedNumber
 named name number = record { name = name; number = number }
 
-abbrev pub numbers_of : Members → Result (List NamedNumber) TimingKind
-numbers_of no_members = Ok []
-numbers_of (member name d ms) = do
-  number ← ok_or (number_in d) Range
-  more ← numbers_of ms
+-- each from 1 to the greatest
+abbrev pub numbers_of : ℕ → Members → Result (List NamedNumber) TimingKind
+numbers_of greatest no_members = Ok []
+numbers_of greatest (member name d ms) = do
+  number ← ok_or (whole_in 1 greatest d) Range
+  more ← numbers_of greatest ms
   Ok (named name number ∷ more)
 
-abbrev pub numbers_in : Data → Result (List NamedNumber) TimingKind
-numbers_in d = ok_or (as_object d) Range >>= numbers_of
+abbrev pub numbers_in : ℕ → Data → Result (List NamedNumber) TimingKind
+numbers_in greatest d = ok_or (as_object d) Range >>= numbers_of greatest
 
 -- what is read at a key, or an empty list where there is no such key
 abbrev pub or_empty : {A : Type 0} → (Data → Result (List A) TimingKind) → Option Data → Result (List A) TimingKind
@@ -43,7 +44,7 @@ or_empty reads None = Ok []
 or_empty reads (Some d) = reads d
 
 abbrev pub numbers_at : List ℕ → Data → Result (List NamedNumber) TimingKind
-numbers_at key d = or_empty numbers_in (get key d)
+numbers_at key d = or_empty (numbers_in greatest_distance) (get key d)
 
 -- ---- ranges of addresses
 

@@ -71,7 +71,8 @@ fn number_table_at(value: &Value, key: &str) -> bool
     value.get(key).is_none_or(|table| is_number_table(table))
 }
 
-fn is_number_table(table: &Value) -> bool
+/// Whether the value is an object with numbers alone.
+pub fn is_number_table(table: &Value) -> bool
     ensures { result ≡ words.is_number_table (view table.now) }
 {
     match table.as_object() {

@@ -77,7 +77,8 @@ fn extra_of(extra: &Extra, address: u32) -> u32
     }
 }
 
-fn number_named(numbers: &[NamedNumber], name: &[u8]) -> Option<u32>
+/// The number of the first member with this name.
+pub fn number_named(numbers: &[NamedNumber], name: &[u8]) -> Option<u32>
     ensures { result ≡ names.number_named numbers.now name.now }
 {
     Some(first_named(numbers, name)?.number)

@@ -20,8 +20,10 @@ mod unit;
 
 pub use costs::{ClassCosts, ServiceCosts};
 pub use fault::{TimingFault, TimingKind};
-pub use greatest::lies_in;
+pub use greatest::{lies_in, number_named};
 pub use listed::Memory;
 pub use read::read_timing;
+pub use form::is_number_table;
+pub use reading::numbers_by_name;
 pub use timing::{Extra, Extras, Loop, Loops, Name, NamedNumber, NamedNumbers, Timing};
 pub use unit::unit_timing;

@@ -3,7 +3,8 @@
 ghost use Rattle.std.specs.Prelude.{◌≡◌, IfOk};
 ghost use Rattle.listed.specs.Faults.{Gives};
 ghost use Rattle.serde_json.specs.View.{view, members_view};
-ghost use Rattle.timing_file.specs.Lawful.{AreNumbers};
+ghost use Rattle.json_fields.specs.Numbers.{whole_in};
+ghost use Rattle.timing_file.specs.Lawful.{AreNumbers, AreUpTo};
 ghost use Rattle.timing_file.specs.Timing as words;
 ghost use Rattle.timing_file.specs.Working.InRange.{IsInRange};
 
@@ -17,7 +18,7 @@ use serde_json::{Map, Value};
 use std::alloc::Global;
 
 /// The greatest distance, and the greatest number of cycles a tick.
-const GREATEST_DISTANCE: u64 = (1 << 31) - 1;
+const GREATEST_DISTANCE: u32 = (1 << 31) - 1;
 
 /// Loops and extras are at most this many.
 const MOST_RANGES: usize = 256;
@@ -96,28 +97,38 @@ fn numbers_at(alloc: Global, value: &Value, key: &str) -> Result<NamedNumbers, T
     ensures lawful { IfOk result AreNumbers }
 {
     match value.get(key) {
-        Some(table) => numbers_in(alloc, table),
+        Some(table) => numbers_by_name(alloc, table, GREATEST_DISTANCE),
         None => Ok(NamedNumbers::new(alloc)),
     }
 }
 
-fn numbers_in(alloc: Global, table: &Value) -> Result<NamedNumbers, TimingFault>
-    ensures value { Gives result (words.numbers_in (view table.now)) }
-    ensures lawful { IfOk result AreNumbers }
+/// The members of an object as numbers by name, each from 1 to the greatest; Range where one is out
+/// of that, or the value is no object.
+pub fn numbers_by_name(
+    alloc: Global,
+    table: &Value,
+    greatest: u32,
+) -> Result<NamedNumbers, TimingFault>
+    ensures value { Gives result (words.numbers_in greatest (view table.now)) }
+    ensures lawful { IfOk result (AreUpTo greatest) }
 {
     match table.as_object() {
-        Some(members) => numbers_of(alloc, members),
+        Some(members) => numbers_of(alloc, members, greatest),
         None => Err(OUT_OF_RANGE),
     }
 }
 
-fn numbers_of(alloc: Global, members: &Map<String, Value>) -> Result<NamedNumbers, TimingFault>
-    ensures value { Gives result (words.numbers_of (members_view members.now.entries)) }
-    ensures lawful { IfOk result AreNumbers }
+fn numbers_of(
+    alloc: Global,
+    members: &Map<String, Value>,
+    greatest: u32,
+) -> Result<NamedNumbers, TimingFault>
+    ensures value { Gives result (words.numbers_of greatest (members_view members.now.entries)) }
+    ensures lawful { IfOk result (AreUpTo greatest) }
 {
     let mut numbers = NamedNumbers::new(alloc);
     for (name, value) in members {
-        match number_in(value) {
+        match number_in(value, greatest) {
             Some(number) => numbers.push(named(alloc, name.as_str(), number)?)?,
             None => return Err(OUT_OF_RANGE),
         }
@@ -132,10 +143,10 @@ fn named(alloc: Global, name: &str, number: u32) -> Result<NamedNumber, Memory>
     Ok(NamedNumber { name, number })
 }
 
-fn number_in(value: &Value) -> Option<u32>
-    ensures { result ≡ words.number_in (view value.now) }
+fn number_in(value: &Value, greatest: u32) -> Option<u32>
+    ensures { result ≡ whole_in 1 greatest (view value.now) }
 {
-    let number = whole_in(value, 1, GREATEST_DISTANCE)?;
+    let number = whole_in(value, 1, u64::from(greatest))?;
     Some(number as u32)
 }
 

@@ -18,51 +18,76 @@ use oil_grammar::{Tree, read_oil};
 use oil_model::{System, model};
 use scheduler_moves::rules;
 use std::alloc::Global;
-use std::fs;
+use std::{env, fs};
 use timing_file::{Timing, read_timing};
 use wcet_atomic_blocks::{Plant, plant};
 
-/// The names of the three files of a plant.
-#[derive(Drop)]
-pub struct PlantNames {
-    pub oil: String,
-    pub elf: String,
-    pub timing: String,
-}
-
-/// A word that has to be there; else the words that are wanted are told.
-pub fn word(given: Option<String>, wanted: &str) -> Result<String> {
-    match given {
-        Some(word) => Ok(word),
-        None => Err(anyhow!("the words are {wanted}")),
+/// The command words behind the program's name.
+pub fn words(rt: &HostRuntime) -> Result<Vec<String>> {
+    let mut words = Vec::new(rt.alloc());
+    for word in env::args(rt)?.skip(1) {
+        words.push(word)?;
     }
+    Ok(words)
 }
 
 /// The plant of the three files.
-pub fn plant_in(rt: &HostRuntime, names: &PlantNames) -> Result<Plant> {
-    let system = system_in(rt, names.oil.as_str())?;
-    plant_with(rt, system, names)
+pub fn plant_in(rt: &HostRuntime, oil: &str, elf: &str, timing: &str) -> Result<Plant> {
+    let system = system_in(rt, oil)?;
+    plant_with(rt, system, elf, timing)
 }
 
-fn plant_with(rt: &HostRuntime, system: System, names: &PlantNames) -> Result<Plant>
+fn plant_with(rt: &HostRuntime, system: System, elf: &str, timing: &str) -> Result<Plant>
     requires { IsLawfulSystem system }
 {
-    let image = image_in(rt.alloc(), &fs::read(rt, names.elf.as_str())?)?;
-    plant_on(rt, system, image, names)
+    match image_at(rt, elf) {
+        Ok(image) => plant_on(rt, system, image, timing),
+        Err(error) => {
+            drop(system);
+            Err(error)
+        }
+    }
 }
 
-fn plant_on(rt: &HostRuntime, system: System, image: Image, names: &PlantNames) -> Result<Plant>
+fn plant_on(rt: &HostRuntime, system: System, image: Image, timing: &str) -> Result<Plant>
     requires { IsLawfulSystem system }
 {
-    let timing = timing_in(rt.alloc(), &fs::read(rt, names.timing.as_str())?)?;
-    planted(rt.alloc(), system, image, timing)
+    match timing_at(rt, timing) {
+        Ok(timing) => planted(rt.alloc(), system, image, timing),
+        Err(error) => {
+            drop(system);
+            drop(image);
+            Err(error)
+        }
+    }
 }
 
 fn system_in(rt: &HostRuntime, path: &str) -> Result<System>
     ensures { IfOk result IsLawfulSystem }
 {
-    let tree = tree_in(rt.alloc(), &fs::read(rt, path)?)?;
-    system_of(rt.alloc(), &tree)
+    let tree = tree_at(rt, path)?;
+    let system = system_of(rt.alloc(), &tree);
+    drop(tree);
+    system
+}
+
+fn tree_at(rt: &HostRuntime, path: &str) -> Result<Tree>
+    ensures { IfOk result IsWellFormed }
+{
+    let bytes = fs::read(rt, path)?;
+    tree_in(rt.alloc(), &bytes)
+}
+
+fn image_at(rt: &HostRuntime, path: &str) -> Result<Image> {
+    let bytes = fs::read(rt, path)?;
+    image_in(rt.alloc(), &bytes)
+}
+
+fn timing_at(rt: &HostRuntime, path: &str) -> Result<Timing>
+    ensures { IfOk result IsLawfulTiming }
+{
+    let bytes = fs::read(rt, path)?;
+    timing_in(rt.alloc(), &bytes)
 }
 
 fn tree_in(alloc: Global, bytes: &[u8]) -> Result<Tree>
@@ -118,7 +143,8 @@ fn planted(alloc: Global, system: System, image: Image, timing: Timing) -> Resul
 pub fn states_in(rt: &HostRuntime, plant: &Plant, path: &str) -> Result<States>
     ensures { IfOk result (λ states. differ same_state states ≡ true) }
 {
-    states_of(rt.alloc(), plant, &fs::read(rt, path)?)
+    let bytes = fs::read(rt, path)?;
+    states_of(rt.alloc(), plant, &bytes)
 }
 
 fn states_of(alloc: Global, plant: &Plant, bytes: &[u8]) -> Result<States>

@@ -36,7 +36,9 @@ pub fn trace_judged<F: Files>(
         certificate.now trace.now files.old result files.new }
 {
     let analysed = read_task(alloc, oil, elf, timing, task, files)?;
-    judge_on(alloc, &analysed, certificate, trace, task.as_str(), files)
+    let answered = judge_on(alloc, &analysed, certificate, trace, task.as_str(), files);
+    drop(analysed);
+    answered
 }
 
 fn judge_on<F: Files>(

@@ -30,7 +30,9 @@ pub fn trace_recorded<F: Files>(
         files.old result files.new }
 {
     let plant = plant_of(alloc, oil, elf, timing, files)?;
-    record_on(alloc, &plant, schedule, files)
+    let answered = record_on(alloc, &plant, schedule, files);
+    drop(plant);
+    answered
 }
 
 fn record_on<F: Files>(

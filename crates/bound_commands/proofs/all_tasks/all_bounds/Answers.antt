@@ -8,4 +8,4 @@ returns-in_err-plant g c =
     inr (halt, c.in_err-plant.ensures, err_is c.from_residual.result halt c.from_residual.ensures.0 c.from_residual.ensures.1)
 
 pub returns : goal.returns
-returns g c = inl (c.in_ok-plant.plant, c.plant_of.new.files, c.in_ok-plant.ensures, c.all_on.ensures)
+returns g c = inl (c.in_ok-plant.plant, c.plant_of.new.files, c.in_ok-plant.ensures, c.all_on-answered.ensures)

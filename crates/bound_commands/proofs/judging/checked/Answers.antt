@@ -8,6 +8,6 @@ returns g c =
     let calls = IsCall g.F.Files.outside g.F.Files.reads in
     let analysed = c.in_ok-analysed.analysed in
     let next = subst
-    (λ (name : List ℕ). CheckOn calls c.args.certificate.now name analysed c.read_subject.new.files c.check_on.result c.check_on.new.files)
-    c.name.ensures c.check_on.ensures in
+    (λ (name : List ℕ). CheckOn calls c.args.certificate.now name analysed c.read_subject.new.files c.check_on-answered.result c.check_on-answered.new.files)
+    c.name.ensures c.check_on-answered.ensures in
     inl (analysed, c.read_subject.new.files, c.in_ok-analysed.ensures, next)

@@ -8,6 +8,6 @@ returns g c =
     let calls = IsCall g.F.Files.outside g.F.Files.reads in
     let analysed = c.in_ok-analysed.analysed in
     let next = subst
-    (λ (name : List ℕ). BoundOn calls c.args.states.now c.args.pivots name analysed c.read_subject.new.files c.bound_on.result c.bound_on.new.files)
-    c.name.ensures c.bound_on.ensures in
+    (λ (name : List ℕ). BoundOn calls c.args.states.now c.args.pivots name analysed c.read_subject.new.files c.bound_on-answered.result c.bound_on-answered.new.files)
+    c.name.ensures c.bound_on-answered.ensures in
     inl (analysed, c.read_subject.new.files, c.in_ok-analysed.ensures, next)

@@ -8,6 +8,6 @@ returns g c =
     let calls = IsCall g.F.Files.outside g.F.Files.reads in
     let analysed = c.in_ok-analysed.analysed in
     let next = subst
-    (λ (name : List ℕ). CertifyOn calls c.args.states.now c.args.pivots name analysed c.read_subject.new.files c.certify_on.result c.certify_on.new.files)
-    c.name.ensures c.certify_on.ensures in
+    (λ (name : List ℕ). CertifyOn calls c.args.states.now c.args.pivots name analysed c.read_subject.new.files c.certify_on-answered.result c.certify_on-answered.new.files)
+    c.name.ensures c.certify_on-answered.ensures in
     inl (analysed, c.read_subject.new.files, c.in_ok-analysed.ensures, next)

@@ -16,6 +16,6 @@ returns g c =
     let bound = c.args.wanted.bound in
     let cuts = c.args.wanted.cuts in
     let next = subst
-    (λ (name : List ℕ). FindOn calls c.args.states.now bound cuts name analysed c.read_task.new.files c.find_on.result c.find_on.new.files)
-    c.as_str.ensures.same c.find_on.ensures in
+    (λ (name : List ℕ). FindOn calls c.args.states.now bound cuts name analysed c.read_task.new.files c.find_on-answered.result c.find_on-answered.new.files)
+    c.as_str.ensures.same c.find_on-answered.ensures in
     inl (analysed, c.read_task.new.files, c.in_ok-analysed.ensures, next)

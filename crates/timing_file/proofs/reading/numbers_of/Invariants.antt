@@ -6,6 +6,6 @@ use Rattle.timing_file.proofs.reading.numbers_of.Given as goal
 
 abbrev pub invariant-loop-name : goal.invariant-loop-name
 invariant-loop-name l =
-    (with_front l.numbers (numbers_of (members_view l.name-iterator)) ≡ numbers_of (members_view l.members.entries))
+    (with_front l.numbers (numbers_of l.greatest (members_view l.name-iterator)) ≡ numbers_of l.greatest (members_view l.members.entries))
     × (goal.iterator-loop-name).can_next l.name-iterator
     × (goal.iterator-loop-name).is_finite l.name-iterator

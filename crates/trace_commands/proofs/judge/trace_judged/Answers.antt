@@ -11,8 +11,8 @@ returns-in_err-analysed g c =
     let halt = c.in_err-analysed.field-0.0 in
     inr (halt, c.in_err-analysed.ensures, err_is c.from_residual.result halt c.from_residual.ensures.0 c.from_residual.ensures.1)
 
-pub judge_on-requires : goal.judge_on-requires
-judge_on-requires g c =
+pub judge_on-answered-requires : goal.judge_on-answered-requires
+judge_on-answered-requires g c =
     (is_analysed g.F.Files.outside g.F.Files.reads c.args.files.now (Named c.args.oil.now c.args.elf.now c.args.timing.now c.args.task.now)
     c.in_ok-analysed.analysed c.read_task.new.files c.in_ok-analysed.ensures).exists
 
@@ -21,6 +21,6 @@ returns g c =
     let calls = IsCall g.F.Files.outside g.F.Files.reads in
     let analysed = c.in_ok-analysed.analysed in
     let next = subst
-    (λ (name : List ℕ). JudgeOn calls c.args.certificate.now c.args.trace.now name analysed c.read_task.new.files c.judge_on.result c.judge_on.new.files)
-    c.as_str.ensures.same c.judge_on.ensures in
+    (λ (name : List ℕ). JudgeOn calls c.args.certificate.now c.args.trace.now name analysed c.read_task.new.files c.judge_on-answered.result c.judge_on-answered.new.files)
+    c.as_str.ensures.same c.judge_on-answered.ensures in
     inl (analysed, c.read_task.new.files, c.in_ok-analysed.ensures, next)

@@ -1,0 +1,8 @@
+use Rattle.std.proofs.Common.{◌∙◌}
+use Rattle.promises_file.specs.Promises.{is_plain}
+use Rattle.promises_file.proofs.Keys.{each_passes}
+use Rattle.promises_file.proofs.names.has_plain_keys.Goals as goal
+
+pub returns-in-Some : goal.returns-in-Some
+returns-in-Some c =
+    rw (← c.in-Some.ensures) (c.all_plain.ensures ∙ each_passes (is_plain c.args.system.now) c.in-Some.members.now.entries)

@@ -1,0 +1,3 @@
+pub mod Kinds
+pub mod Latencies
+pub mod Promises
