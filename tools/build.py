@@ -6,7 +6,6 @@ each is named on standard error once it is proved. What was proved before a stop
 the program stands, 1 where something isn't proved, and 128 and the signal's number where one stopped the build.
 """
 import os
-import signal
 import subprocess
 import sys
 import time
