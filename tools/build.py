@@ -6,7 +6,6 @@ each is named on standard error once it is proved. What was proved before a stop
 the program stands, 1 where something isn't proved, and 128 and the signal's number where one stopped the build.
 """
 import os
-import signal
 import subprocess
 import sys
 import time
@@ -28,6 +27,15 @@ def sources_of(crate):
 
 def stamp_of(crate):
     return os.path.join(rooms.CRATES, crate, "out", "rlib", "stamp")
+
+
+def text_of(folder, name):
+    """The text of a file, empty where it isn't there."""
+    path = os.path.join(folder, name)
+    if not os.path.exists(path):
+        return ""
+    with open(path) as text:
+        return text.read()
 
 
 def weight(crate, below):
@@ -120,12 +128,12 @@ class Build:
     def program(self, name):
         """Whether the program is there, which rt runs here on the words and files of the gate."""
         began, folder = time.time(), os.path.join(rooms.CRATES, name)
-        with open(os.path.join(folder, "args")) as lines:
-            words = [os.path.join("data", it) if os.path.exists(os.path.join(folder, "data", it)) else it for it in lines.read().splitlines()]
-        how = {"cwd": folder, "stdin": subprocess.DEVNULL, "stdout": subprocess.PIPE, "stderr": subprocess.STDOUT, "start_new_session": True}
-        with subprocess.Popen(["rt", "run", "--", *words], errors="replace", **how) as job:
+        data = os.path.join(folder, "data")
+        words = [os.path.join("data", it) if os.path.exists(os.path.join(data, it)) else it for it in text_of(folder, "args").splitlines()]
+        how = {"cwd": folder, "stdin": subprocess.PIPE, "stdout": subprocess.PIPE, "stderr": subprocess.STDOUT, "start_new_session": True}
+        with subprocess.Popen(["rt", "run", "--", *words], text=True, errors="replace", **how) as job:
             try:
-                told = job.communicate()[0].splitlines()
+                told = job.communicate(text_of(folder, "stdin"))[0].splitlines()
             finally:
                 job.kill()
         if job.returncode != 0:

@@ -115,6 +115,24 @@ class Job:
         self.room.close()
 
 
+class Whole:
+    """Holds a signal that stops the work off until its block has ended, so that what is begun in it can be put away."""
+
+    depth, signals = 0, []
+
+    def __enter__(self):
+        Whole.depth += 1
+
+    def __exit__(self, *_):
+        Whole.depth -= 1
+        Whole.leave()
+
+    @staticmethod
+    def leave():
+        if Whole.signals and not Whole.depth:
+            sys.exit(128 + Whole.signals[0])
+
+
 def stopping(call):
     """The status that a call gives, or that of the signal by which it was stopped, once what it began is put away."""
     kinds = (signal.SIGHUP, signal.SIGINT, signal.SIGTERM)
@@ -122,7 +140,8 @@ def stopping(call):
     def stop(number, _):
         for kind in kinds:
             signal.signal(kind, signal.SIG_IGN)
-        sys.exit(128 + number)
+        Whole.signals.append(number)
+        Whole.leave()
 
     for kind in kinds:
         signal.signal(kind, stop)
@@ -135,17 +154,20 @@ def run(left, begun, ended):
     running, most = [], lanes()
     try:
         while left or running:
-            job = begun(left, most - sum(it.processors for it in running)) if left else None
+            with Whole():
+                job = begun(left, most - sum(it.processors for it in running)) if left else None
+                if job:
+                    left.remove(job.name)
+                    running.append(job)
             if job:
-                left.remove(job.name)
-                running.append(job)
                 continue
             time.sleep(0.2)
-            for job in [it for it in running if it.process.poll() is not None]:
-                if not ended(job):
-                    return False
-                running.remove(job)
-                job.close()
+            with Whole():
+                for job in [it for it in running if it.process.poll() is not None]:
+                    if not ended(job):
+                        return False
+                    running.remove(job)
+                    job.close()
         return True
     finally:
         for job in running:
