@@ -1,9 +1,9 @@
 -- Takings of a source lie apart, since its arrivals do and wait no longer than is promised.
 use Rattle.std.proofs.Common.{◌≡◌, ℕ, zero, suc, ◌+◌, ◌*◌, ◌≤◌, Bool, true, false, cond, List, [], ◌∷◌, ◌++◌, Contains, Option, Some, None, refl}
-use Rattle.std.proofs.Common.{sym, ◌∙◌, ap, subst, arith, mul-suc, append-nil}
+use Rattle.std.proofs.Common.{sym, ◌∙◌, ap, subst, arith, mul-suc, append-nil, append_assoc}
 use Rattle.std.specs.Prelude.{◌==◌, nat_lt, unwrap_or}
 use Rattle.std.specs.List.{AllByRecursion}
-use Rattle.std.proofs.lemmas.Bool.{eqb-true}
+use Rattle.std.proofs.lemmas.Bool.{eq-eqb, eqb-true}
 use Rattle.std.proofs.lemmas.List.Elements.{All-contains, All-from_recursion}
 use Rattle.elf_image.specs.Image.{ImageData}
 use Rattle.oil_model.specs.declared.system.System.{System}
@@ -17,7 +17,7 @@ use Rattle.osek_machine.specs.Declarations.{IsInTime, arrivals_of, distance_of, 
 use Rattle.osek_machine.specs.Runs.{IsRun}
 use Rattle.osek_machine.specs.Steps.{Arrives, Takes}
 use Rattle.promised_runs.specs.Promised.{WaitsWithin, IsPromised, pending_since}
-use Rattle.promised_runs.specs.Apart.{KeepsPromises, TakingsLieApart, FirstTakingsLieApart, lesser, takings}
+use Rattle.promised_runs.specs.Apart.{KeepsPromises, TakingsLieApart, TakingsFollow, FirstTakingsLieApart, lesser, takings}
 use Rattle.osek_machine.proofs.Calendar.{begun_at, in_calendar, waits}
 
 -- ---- Beginnings of a run
@@ -457,4 +457,23 @@ first_takings_lie_apart image system timing promises mode taking recent state ke
     let apart = now_apart image system timing promises mode taking recent [] state 1 0 (takings taking.source recent) (at_start refl)
     (subst (λ (events : List Event). KeepsPromises image system timing promises mode (Take taking ∷ events) state) (sym whole) keeps) (omega arith) in
     let same = ap duration whole in
+    omega arith
+
+-- one taking more at the end of the steps
+takes_last : (source : ℕ) (before : Taking) (recent : List Event) → before.source ≡ source
+    → takings source (recent ++ Take before ∷ []) ≡ takings source recent + 1
+takes_last source before [] is = let here = ap one (eq-eqb before.source source is) in omega arith
+takes_last source before (Take taking ∷ recent) is = let more = takes_last source before recent is in omega arith
+takes_last source before (Arrive arrival ∷ recent) is = takes_last source before recent is
+takes_last source before (Execute execution ∷ recent) is = takes_last source before recent is
+takes_last source before (Serve call ∷ recent) is = takes_last source before recent is
+takes_last source before (Idle cycles ∷ recent) is = takes_last source before recent is
+
+pub takings_follow : TakingsFollow
+takings_follow image system timing promises mode taking before recent earlier state keeps is =
+    let whole : (recent ++ Take before ∷ []) ++ earlier ≡ recent ++ Take before ∷ earlier = append_assoc recent (Take before ∷ []) earlier in
+    let apart = takings_lie_apart image system timing promises mode taking (recent ++ Take before ∷ []) earlier state
+    (subst (λ (events : List Event). KeepsPromises image system timing promises mode (Take taking ∷ events) state) (sym whole) keeps) in
+    let same = ap duration whole in
+    let more = ap (λ n. distance_of system timing (source_at system taking.source) * n) (takes_last taking.source before recent is) in
     omega arith

@@ -1,5 +1,5 @@
 -- How often a source is taken in some time: its arrivals lie apart, and each of them waits no longer than is promised.
-use Rattle.std.specs.Prelude.{ℕ, ◌+◌, ◌*◌, ◌≤◌, ◌==◌, nat_lt, List, [], ◌∷◌, ◌++◌, Option, Some, None, if◌then◌else◌}
+use Rattle.std.specs.Prelude.{◌≡◌, ℕ, ◌+◌, ◌*◌, ◌≤◌, ◌==◌, nat_lt, List, [], ◌∷◌, ◌++◌, Option, Some, None, if◌then◌else◌}
 use Rattle.oil_model.specs.declared.system.System.{System}
 use Rattle.elf_image.specs.Image.{ImageData}
 use Rattle.osek_kernel.specs.Sources.{source_at}
@@ -49,3 +49,11 @@ FirstTakingsLieApart = (image : ImageData) (system : System) (timing : Timing) (
     (recent : List Event) (state : MachineState)
     → KeepsPromises image system timing promises mode (Take taking ∷ recent) state
     → distance_of system timing (source_at system taking.source) * takings taking.source recent ≤ duration recent
+
+-- Where the source was taken before, that taking counts too, and the moment is the one at which it began.
+abbrev pub TakingsFollow : Type 0
+TakingsFollow = (image : ImageData) (system : System) (timing : Timing) (promises : Promises) (mode : ℕ) (taking before : Taking)
+    (recent earlier : List Event) (state : MachineState)
+    → KeepsPromises image system timing promises mode (Take taking ∷ recent ++ Take before ∷ earlier) state → before.source ≡ taking.source
+    → duration earlier + distance_of system timing (source_at system taking.source) * (takings taking.source recent + 1)
+    ≤ duration (recent ++ Take before ∷ earlier) + wait_of system timing promises taking.source

@@ -6,4 +6,4 @@
 
 mod laws;
 
-pub use laws::{first_takings_lie_apart, takings_lie_apart};
+pub use laws::{first_takings_lie_apart, takings_follow, takings_lie_apart};
