@@ -15,6 +15,3 @@ pub use halt::{Halt, Refusal, bytes_of};
 pub use reading::{long_refusal, read_file};
 pub use reporting::{read_text, report, write_text};
 pub use status::{Reason, Status};
-
-#[cfg(test)]
-mod tests;

@@ -18,6 +18,3 @@ pub use lists::{list_in, list_of, list_up_to};
 pub use members::{Format, each};
 pub use numbers::{address_in, digits_below, digits_in, whole_in};
 pub use objects::{has_exactly, has_keys, list_at, text_at};
-
-#[cfg(test)]
-mod tests;

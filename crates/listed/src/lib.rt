@@ -18,6 +18,3 @@ pub use fault::{Fault, told_as};
 pub use list::Listed;
 pub use memory::Memory;
 pub use numbers::ListedNumbers;
-
-#[cfg(test)]
-mod tests;

@@ -40,6 +40,3 @@ pub type Bytes = ListedNumbers<u8>;
 
 /// The words of a command, without the program's name.
 pub type Words = Listed<Text>;
-
-#[cfg(test)]
-mod tests;
