@@ -5,6 +5,8 @@
 #[cfg(test)]
 mod certificate_calls;
 #[cfg(test)]
+mod json_fields_calls;
+#[cfg(test)]
 mod oil_grammar_calls;
 #[cfg(test)]
 mod oil_model_calls;
