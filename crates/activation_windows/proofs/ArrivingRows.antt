@@ -8,7 +8,6 @@ use Rattle.std.proofs.lemmas.List.Sums.{sum_by-cons}
 use Rattle.std.proofs.lemmas.Int.{ints}
 use Rattle.std.proofs.lemmas.Option.{none-some, same_Some}
 use Rattle.std.proofs.Math.IntN.{pos-*ℤ-pos}
-use Rattle.oil_model.specs.declared.system.System.{System}
 use Rattle.osek_kernel.specs.declared.context.Context.{Context}
 use Rattle.osek_kernel.specs.declared.context.Context.TheVariants as contexts
 use Rattle.osek_kernel.specs.declared.kernel.Active.{Active}
@@ -17,7 +16,7 @@ use Rattle.osek_kernel.specs.Taken.{initial}
 use Rattle.osek_kernel.specs.Sources.{source_at, source_count, is_one_shot}
 use Rattle.osek_machine.specs.State.{MachineState}
 use Rattle.osek_machine.specs.Events.{Arrival, Event, Arrive, Take, Execute, Serve, Idle, duration, started_by, ended_by}
-use Rattle.osek_machine.specs.Activations.{active_at_start, active_since}
+use Rattle.osek_machine.specs.Activations.{active_since}
 use Rattle.osek_machine.specs.Declarations.{IsInTime, ArrivesInTime, KeepsArrivals, arrivals_of, distance_of, gap}
 use Rattle.osek_machine.specs.Steps.{Arrives}
 use Rattle.wcet_atomic_blocks.specs.Plants.{PlantData}
@@ -27,7 +26,7 @@ use Rattle.row_build.specs.Columns.{Column, Starts, In, cost}
 use Rattle.row_build.specs.Families.{Row, arrives_apart, arrives_once, arriving, is_ever_live}
 use Rattle.activation_windows.specs.Counted.{IsDeclaredCase, Meets, MeetsArriving}
 use Rattle.activation_windows.specs.Windows.{Window, gone_on, open_window, used_by}
-use Rattle.osek_machine.proofs.Calendar.{begun_at, begun_before, in_calendar, waits, waits_arrived}
+use Rattle.activation_windows.proofs.Calendar.{begun_at, begun_before, in_calendar, waits, waits_arrived}
 use Rattle.activation_windows.proofs.Induction.{IsLater, Inducts, of_open, of_used}
 use Rattle.activation_windows.proofs.Lasting.{Lasts, lasts, since_before, since_start}
 use Rattle.activation_windows.proofs.Sums.{one, meets_by, difference_counted, sum_with}
@@ -169,17 +168,17 @@ here_apart distance source count after arrival earlier since false is here count
 
 -- ---- A window
 
-abbrev pub Apart : PlantData → Context → ℕ → ℕ → List Event → MachineState → Window → Type 0
-Apart plant subject mode source events state window = (since : ℕ) → active_since plant.system mode subject events ≡ Some since
+abbrev pub Apart : PlantData → ℕ → ℕ → ℕ → List Event → MachineState → Window → Type 0
+Apart plant task mode source events state window = (since : ℕ) → active_since plant.system mode task events ≡ Some since
     → ArriveApart (distance_of plant.system plant.timing (source_at plant.system source)) source (took source window) events since
 
-arrive_apart : (plant : PlantData) (states : List AbsState) (subject : Context) (mode source : ℕ) (arrival : Arrival) (earlier : List Event) (before after : MachineState)
-    (window : Window) (since : ℕ) → IsLater plant states subject mode (Arrive arrival) earlier before after
+arrive_apart : (plant : PlantData) (states : List AbsState) (task mode source : ℕ) (arrival : Arrival) (earlier : List Event) (before after : MachineState)
+    (window : Window) (since : ℕ) → IsLater plant states task mode (Arrive arrival) earlier before after
     → (here : Bool) → (arrival.source == source) ≡ here
     → ArriveApart (distance_of plant.system plant.timing (source_at plant.system source)) source (took source window) earlier since
     → ArriveApart (distance_of plant.system plant.timing (source_at plant.system source)) source
     (took source (gone_on plant mode (Arrive arrival) earlier window)) (Arrive arrival ∷ earlier) since
-arrive_apart plant states subject mode source arrival earlier before after window since later true is apart =
+arrive_apart plant states task mode source arrival earlier before after window since later true is apart =
     let step : Arrives plant.system arrival before after = later.step in
     let calendar = in_calendar plant.image plant.system mode earlier before later.case.of.run in
     let in_time : IsInTime plant.system plant.timing arrival.source arrival.moment (arrivals_of arrival.source earlier) = later.declared.arrivals.0 in
@@ -190,43 +189,39 @@ arrive_apart plant states subject mode source arrival earlier before after windo
     (took source (gone_on plant mode (Arrive arrival) earlier window)) arrival earlier since (waits source earlier) refl is
     (omega arith) (let last = calendar.last in let begins = step.begun in omega arith) (let now = calendar.now in let past = step.past in omega arith)
     far apart
-arrive_apart plant states subject mode source arrival earlier before after window since later false is apart =
-    let counts = gone_on_counts plant states subject mode source (Arrive arrival) earlier before after window later in
+arrive_apart plant states task mode source arrival earlier before after window since later false is apart =
+    let counts = gone_on_counts plant states task mode source (Arrive arrival) earlier before after window later in
     let other = ap one is in
     other_apart (distance_of plant.system plant.timing (source_at plant.system source)) source (took source window)
     (took source (gone_on plant mode (Arrive arrival) earlier window)) arrival earlier since is (omega arith) apart
 
-step_apart : (plant : PlantData) (states : List AbsState) (subject : Context) (mode source : ℕ) (event : Event) (earlier : List Event) (before after : MachineState)
-    (window : Window) (since : ℕ) → IsLater plant states subject mode event earlier before after
+step_apart : (plant : PlantData) (states : List AbsState) (task mode source : ℕ) (event : Event) (earlier : List Event) (before after : MachineState)
+    (window : Window) (since : ℕ) → IsLater plant states task mode event earlier before after
     → ArriveApart (distance_of plant.system plant.timing (source_at plant.system source)) source (took source window) earlier since
     → ArriveApart (distance_of plant.system plant.timing (source_at plant.system source)) source
     (took source (gone_on plant mode event earlier window)) (event ∷ earlier) since
-step_apart plant states subject mode source (Arrive arrival) earlier before after window since later apart =
-    arrive_apart plant states subject mode source arrival earlier before after window since later (arrival.source == source) refl apart
-step_apart plant states subject mode source (Take taking) earlier before after window since later apart =
-    let counts = gone_on_counts plant states subject mode source (Take taking) earlier before after window later in
+step_apart plant states task mode source (Arrive arrival) earlier before after window since later apart =
+    arrive_apart plant states task mode source arrival earlier before after window since later (arrival.source == source) refl apart
+step_apart plant states task mode source (Take taking) earlier before after window since later apart =
+    let counts = gone_on_counts plant states task mode source (Take taking) earlier before after window later in
     timed_apart _ source (took source window) (took source (gone_on plant mode (Take taking) earlier window)) (Take taking) earlier since refl refl
     (omega arith) apart
-step_apart plant states subject mode source (Execute execution) earlier before after window since later apart =
-    let counts = gone_on_counts plant states subject mode source (Execute execution) earlier before after window later in
+step_apart plant states task mode source (Execute execution) earlier before after window since later apart =
+    let counts = gone_on_counts plant states task mode source (Execute execution) earlier before after window later in
     timed_apart _ source (took source window) (took source (gone_on plant mode (Execute execution) earlier window)) (Execute execution) earlier since refl refl
     (omega arith) apart
-step_apart plant states subject mode source (Serve call) earlier before after window since later apart =
-    let counts = gone_on_counts plant states subject mode source (Serve call) earlier before after window later in
+step_apart plant states task mode source (Serve call) earlier before after window since later apart =
+    let counts = gone_on_counts plant states task mode source (Serve call) earlier before after window later in
     timed_apart _ source (took source window) (took source (gone_on plant mode (Serve call) earlier window)) (Serve call) earlier since refl refl
     (omega arith) apart
-step_apart plant states subject mode source (Idle cycles) earlier before after window since later apart =
-    let counts = gone_on_counts plant states subject mode source (Idle cycles) earlier before after window later in
+step_apart plant states task mode source (Idle cycles) earlier before after window since later apart =
+    let counts = gone_on_counts plant states task mode source (Idle cycles) earlier before after window later in
     timed_apart _ source (took source window) (took source (gone_on plant mode (Idle cycles) earlier window)) (Idle cycles) earlier since refl refl
     (omega arith) apart
 
-zero_if : (state : Option Active) (since : ℕ) → option_map (λ active. 0) state ≡ Some since → since ≡ 0
-zero_if None since e = absurd (none-some since e)
-zero_if (Some active) since e = sym (same_Some 0 since e)
-
-zero_since : (system : System) (mode : ℕ) (context : Context) (since : ℕ) → active_at_start system mode context ≡ Some since → since ≡ 0
-zero_since system mode (contexts.Task task) since e = zero_if (task_state (initial system mode) task) since e
-zero_since system mode (contexts.Isr isr) since e = absurd (none-some since e)
+zero_since : (state : Option Active) (since : ℕ) → option_map (λ active. 0) state ≡ Some since → since ≡ 0
+zero_since None since e = absurd (none-some since e)
+zero_since (Some active) since e = sym (same_Some 0 since e)
 
 starts_timed : (event : Event) (earlier : List Event) (context : Context) → started_by event ≡ Some context → begun_at (event ∷ earlier) ≡ duration earlier
 starts_timed (Arrive arrival) earlier context starts = absurd (none-some context starts)
@@ -235,21 +230,21 @@ starts_timed (Execute execution) earlier context starts = refl
 starts_timed (Serve call) earlier context starts = refl
 starts_timed (Idle cycles) earlier context starts = refl
 
-apart_in : (plant : PlantData) (states : List AbsState) (subject : Context) (mode source : ℕ) → Inducts plant states subject mode (Apart plant subject mode source)
-apart_in plant states subject mode source = record {
+apart_in : (plant : PlantData) (states : List AbsState) (task mode source : ℕ) → Inducts plant states task mode (Apart plant task mode source)
+apart_in plant states task mode source = record {
   starts = λ state case active since e. record {
-    begun = (let zero_one = zero_since plant.system mode subject since e in omega arith);
+    begun = (let zero_one = zero_since (task_state (initial plant.system mode) task) since e in omega arith);
     last = λ later many. absurd (let none = opened_took plant mode source (Some (Starts (In mode))) [] in omega arith);
   };
   begins = λ event earlier before after later starts since e. record {
-    begun = (let begun = since_start plant subject mode event earlier since starts e in
-        let timed = starts_timed event earlier subject starts in omega arith);
-    last = λ further many. absurd (let counts = opened_counts plant states subject mode source event earlier before after subject later starts in
+    begun = (let begun = since_start plant task mode event earlier since starts e in
+        let timed = starts_timed event earlier (contexts.Task task) starts in omega arith);
+    last = λ further many. absurd (let counts = opened_counts plant states task mode source event earlier before after (contexts.Task task) later starts in
         let once = waits_once source earlier in omega arith);
   };
   goes_on = λ event earlier before after window later others stays is_open held since e.
-      step_apart plant states subject mode source event earlier before after window since later
-      (held since (since_before plant subject mode event earlier since others stays e));
+      step_apart plant states task mode source event earlier before after window since later
+      (held since (since_before plant task mode event earlier since others stays e));
 }
 
 -- ---- One that arrives once
@@ -300,16 +295,16 @@ waits_count source events = waiting (waits source events) refl
     waiting true is = waits_arrived source events is
     waiting false is = omega arith
 
-once_in : (plant : PlantData) (states : List AbsState) (subject : Context) (mode source : ℕ) → Inducts plant states subject mode (TakenOnce source)
-once_in plant states subject mode source = record {
+once_in : (plant : PlantData) (states : List AbsState) (task mode source : ℕ) → Inducts plant states task mode (TakenOnce source)
+once_in plant states task mode source = record {
   starts = λ state case active. (let none = opened_took plant mode source (Some (Starts (In mode))) [] in omega arith);
   begins = λ event earlier before after later starts.
-      let counts = opened_counts plant states subject mode source event earlier before after subject later starts in
+      let counts = opened_counts plant states task mode source event earlier before after (contexts.Task task) later starts in
       let waiting = waits_count source earlier in
       let more = arrivals_count source event earlier in
       omega arith;
   goes_on = λ event earlier before after window later others stays is_open held.
-      let counts = gone_on_counts plant states subject mode source event earlier before after window later in
+      let counts = gone_on_counts plant states task mode source event earlier before after window later in
       let more = arrivals_count source event earlier in
       omega arith;
 }
@@ -324,13 +319,13 @@ ends_elsewhere source (Execute execution) context ends = refl
 ends_elsewhere source (Serve call) context ends = refl
 ends_elsewhere source (Idle cycles) context ends = refl
 
-closing_took : (plant : PlantData) (states : List AbsState) (subject : Context) (mode source : ℕ) (event : Event) (earlier : List Event) (before after : MachineState)
-    (window : Window) → IsLater plant states subject mode event earlier before after → ended_by event ≡ Some subject
+closing_took : (plant : PlantData) (states : List AbsState) (task mode source : ℕ) (event : Event) (earlier : List Event) (before after : MachineState)
+    (window : Window) → IsLater plant states task mode event earlier before after → ended_by event ≡ Some (contexts.Task task)
     → sum_by (takes source) (option_to_list (used_by plant mode event earlier) ++ window.uses) ≤ took source window + one (waits source earlier)
-closing_took plant states subject mode source event earlier before after window later ends =
+closing_took plant states task mode source event earlier before after window later ends =
     let used = sum_with (takes source) (used_by plant mode event earlier) window.uses in
-    let counts = step_counts plant states subject mode source event earlier before after later in
-    let elsewhere = ap one (ends_elsewhere source event subject ends) in
+    let counts = step_counts plant states task mode source event earlier before after later in
+    let elsewhere = ap one (ends_elsewhere source event (contexts.Task task) ends) in
     omega arith
 
 apart_sum : (distance source count : ℕ) (events : List Event) (since took cycles : ℕ) → ArriveApart distance source count events since
@@ -389,34 +384,34 @@ all_meet plant uses each =
     All-map (Meets uses) (row_of plant) (filter (is_ever_live plant) (range_with_len 0 (source_count plant.system)))
     (All-filter (is_ever_live plant) (λ source. Meets uses (row_of plant source)) (range_with_len 0 (source_count plant.system)) (λ k d inside. each _))
 
-open_meets : (plant : PlantData) (states : List AbsState) (subject : Context) (mode : ℕ) (events : List Event) (state : MachineState) (window : Window) (since : ℕ)
-    (uses : List Column) → IsDeclaredCase plant states subject mode events state → open_window plant subject mode events ≡ Some window
-    → active_since plant.system mode subject events ≡ Some since → sum_by (cost plant) window.uses ≤ sum_by (cost plant) uses
+open_meets : (plant : PlantData) (states : List AbsState) (task mode : ℕ) (events : List Event) (state : MachineState) (window : Window) (since : ℕ)
+    (uses : List Column) → IsDeclaredCase plant states task mode events state → open_window plant task mode events ≡ Some window
+    → active_since plant.system mode task events ≡ Some since → sum_by (cost plant) window.uses ≤ sum_by (cost plant) uses
     → ((source : ℕ) → sum_by (takes source) uses ≤ took source window + one (waits source events)) → (source : ℕ) → Meets uses (row_of plant source)
-open_meets plant states subject mode events state window since uses case is_open active costs most source =
+open_meets plant states task mode events state window since uses case is_open active costs most source =
     meets_row plant source uses
     (λ one_shot. meets_once source uses
     (let bound = most source in
-    let once = of_open plant states subject mode (TakenOnce source) (once_in plant states subject mode source) events state window case is_open in
+    let once = of_open plant states task mode (TakenOnce source) (once_in plant states task mode source) events state window case is_open in
     let all = arrives_at_most_once plant source events one_shot case.declared.arrivals in
     omega arith))
     (meets_apart plant source uses
-    (let lasting = of_open plant states subject mode (Lasts plant subject mode) (lasts plant states subject mode) events state window case is_open since active in
+    (let lasting = of_open plant states task mode (Lasts plant task mode) (lasts plant states task mode) events state window case is_open since active in
     apart_sum (distance_of plant.system plant.timing (source_at plant.system source)) source (took source window) events since
     (sum_by (takes source) uses) (sum_by (cost plant) uses)
-    (of_open plant states subject mode (Apart plant subject mode source) (apart_in plant states subject mode source) events state window case is_open since active)
+    (of_open plant states task mode (Apart plant task mode source) (apart_in plant states task mode source) events state window case is_open since active)
     (most source) (omega arith)))
 
 pub meets_arriving : MeetsArriving
-meets_arriving plant states subject mode =
-    of_used plant states subject mode (λ events state uses since. All (Meets uses) (arriving plant)) (record {
+meets_arriving plant states task mode =
+    of_used plant states task mode (λ events state uses since. All (Meets uses) (arriving plant)) (record {
       while_it_is_open = λ events state window since case is_open active.
           all_meet plant window.uses
-          (open_meets plant states subject mode events state window since window.uses case is_open active (omega arith) (λ source. omega arith));
+          (open_meets plant states task mode events state window since window.uses case is_open active (omega arith) (λ source. omega arith));
       closes = λ event earlier before after window since later ends is_open active.
           let used = option_to_list (used_by plant mode event earlier) ++ window.uses in
           let costs = sum_with (cost plant) (used_by plant mode event earlier) window.uses in
           all_meet plant used
-          (open_meets plant states subject mode earlier before window since used later.case is_open active (omega arith)
-          (λ source. closing_took plant states subject mode source event earlier before after window later ends));
+          (open_meets plant states task mode earlier before window since used later.case is_open active (omega arith)
+          (λ source. closing_took plant states task mode source event earlier before after window later ends));
     })

@@ -28,12 +28,12 @@ use Rattle.activation_windows.proofs.Nodes.{context_there, nodes_are}
 -- ---- Where a standing is
 
 -- the node of a context that stands somewhere
-pub at_node_of : (plant : PlantData) (states : List AbsState) (subject : Context) (mode : ℕ) (events : List Event) (state : MachineState) (context : Context)
-    (standing : Standing) → IsDeclaredCase plant states subject mode events state → IsContext plant.system context
+pub at_node_of : (plant : PlantData) (states : List AbsState) (task mode : ℕ) (events : List Event) (state : MachineState) (context : Context)
+    (standing : Standing) → IsDeclaredCase plant states task mode events state → IsContext plant.system context
     → standing_of plant.system state context ≡ Some standing → IsAtNode plant context standing
-at_node_of plant states subject mode events state context standing case exists stands =
+at_node_of plant states task mode events state context standing case exists stands =
     at_node plant case.of.belongs context standing
-    ((covers_of plant states subject mode events state case).walking.walks context standing exists stands)
+    ((covers_of plant states task mode events state case).walking.walks context standing exists stands)
 
 -- A context that stands at the node of that number.
 pub record StandsHere (plant : PlantData) (mode : ℕ) (events : List Event) (state : MachineState) (context : Context) (node : ℕ) : Type 0 where
@@ -52,16 +52,16 @@ joined : {A B : Type 0} (f : A → Option B) (o : Option A) (y : B) → option_a
 joined f None y e = absurd (none-some y e)
 joined f (Some x) y e = (x, refl, e)
 
-pub stands_here : (plant : PlantData) (states : List AbsState) (subject : Context) (mode : ℕ) (events : List Event) (state : MachineState) (context : Context) (node : ℕ)
-    → IsDeclaredCase plant states subject mode events state → IsContext plant.system context
+pub stands_here : (plant : PlantData) (states : List AbsState) (task mode : ℕ) (events : List Event) (state : MachineState) (context : Context) (node : ℕ)
+    → IsDeclaredCase plant states task mode events state → IsContext plant.system context
     → position_of plant.system (nodes_after plant mode events) context ≡ Some node
     → StandsHere plant mode events state context node
-stands_here plant states subject mode events state context node case exists e =
+stands_here plant states task mode events state context node case exists e =
     let there = joined (node_of plant context) (standing_of plant.system state context) node
-    (sym (nodes_are plant states subject mode events state case context exists) ∙ e) in
-    let at = at_node_of plant states subject mode events state context there.0 case exists there.1 in
+    (sym (nodes_are plant states task mode events state case context exists) ∙ e) in
+    let at = at_node_of plant states task mode events state context there.0 case exists there.1 in
     let same : at.number ≡ node = same_Some at.number node (sym at.found ∙ there.2) in
-    let inside = (covered_of plant states subject mode events state case).inside context there.0 exists there.1 in
+    let inside = (covered_of plant states task mode events state case).inside context there.0 exists there.1 in
     let node_is : inside.node ≡ node = same_Some inside.node node (sym inside.stands ∙ there.2) in
     record {
       standing = there.0;
@@ -89,12 +89,12 @@ owner_is plant mode events state context node exists here =
     ∙ ap Some (ap (context_at plant.system) here.context_is ∙ context_there plant.system context exists)
 
 -- the shadow has the context in a block that holds the node
-pub shadow_holds : (plant : PlantData) (states : List AbsState) (subject : Context) (mode : ℕ) (events : List Event) (state : MachineState) (context : Context) (node : ℕ)
-    → IsDeclaredCase plant states subject mode events state → StandsHere plant mode events state context node
+pub shadow_holds : (plant : PlantData) (states : List AbsState) (task mode : ℕ) (events : List Event) (state : MachineState) (context : Context) (node : ℕ)
+    → IsDeclaredCase plant states task mode events state → StandsHere plant mode events state context node
     → holds_in plant (shadow_after plant mode events) context node ≡ true
-shadow_holds plant states subject mode events state context node case here =
+shadow_holds plant states task mode events state context node case here =
     let blocks : blocks_in plant (shadow_after plant mode events) ≡ begun plant mode events =
-    ap (blocks_in plant) (shadow_is plant mode events state case.of.run) ∙ (covered_of plant states subject mode events state case).blocks in
+    ap (blocks_in plant) (shadow_is plant mode events state case.of.run) ∙ (covered_of plant states task mode events state case).blocks in
     let block = there_is (slice_get plant.blocks.blocks here.block) (λ b. holds b.nodes node ≡ true) here.inside in
     ap (λ (bs : List (Option ℕ)). option_map_or (λ (b : Block). holds b.nodes node)
     (option_and_then (slice_get plant.blocks.blocks) (position_of plant.system bs context)) false) blocks

@@ -65,20 +65,20 @@ pub owner_by : (o : Option Node) (owner : ℕ) (node : Node) → o ≡ Some node
 owner_by (Some n) owner node e is = (let same : n ≡ node = same_Some n node e in subst (λ (m : Node). m.context ≡ owner) same (eqb-true n.context owner is))
 owner_by None owner node e is = absurd (none-some node e)
 
-pub begun_owner : (plant : PlantData) (states : List AbsState) (subject : Context) (mode : ℕ) (events : List Event) (state : MachineState)
-    → IsDeclaredCase plant states subject mode events state → (c : Context) → running_after plant mode events ≡ Some c
+pub begun_owner : (plant : PlantData) (states : List AbsState) (task mode : ℕ) (events : List Event) (state : MachineState)
+    → IsDeclaredCase plant states task mode events state → (c : Context) → running_after plant mode events ≡ Some c
     → (number : ℕ) (block : Block) → position_of plant.system (begun plant mode events) c ≡ Some number → slice_get plant.blocks.blocks number ≡ Some block
     → context_at plant.system block.begin.owner ≡ c
 unfolding NodesAreOfOwner
-begun_owner plant states subject mode events state case c runs_now number block began there =
-    let all = covers_of plant states subject mode events state case in
-    let told = told_of plant states subject mode events state case in
+begun_owner plant states task mode events state case c runs_now number block began there =
+    let all = covers_of plant states task mode events state case in
+    let told = told_of plant states task mode events state case in
     let exists : IsContext plant.system c = told.running c runs_now in
     let active : IsActive state.kernel c = (the_first_runs plant.system state.kernel).active c (ap (runs plant.system) (sym told.kernel) ∙ runs_now) in
     let standing = some_of (standing_of plant.system state c) ((all.room.positions.active c exists).1 active) in
-    let number_of = at_node_of plant states subject mode events state c standing.0 case exists standing.1 in
-    let here = stands_here plant states subject mode events state c number_of.number case exists
-    (nodes_are plant states subject mode events state case c exists ∙ (ap (option_and_then (node_of plant c)) standing.1 ∙ number_of.found)) in
+    let number_of = at_node_of plant states task mode events state c standing.0 case exists standing.1 in
+    let here = stands_here plant states task mode events state c number_of.number case exists
+    (nodes_are plant states task mode events state case c exists ∙ (ap (option_and_then (node_of plant c)) standing.1 ∙ number_of.found)) in
     let same : here.block ≡ number = same_Some here.block number (sym here.began ∙ began) in
     let held = there_is (slice_get plant.blocks.blocks here.block) _ here.inside in
     let item : held.item ≡ block = same_Some held.item block (sym held.there ∙ (ap (slice_get plant.blocks.blocks) same ∙ there)) in
@@ -89,34 +89,34 @@ begun_owner plant states subject mode events state case c runs_now number block 
 
 -- ---- It runs only in a state that is come into
 
-runs_there : (plant : PlantData) (states : List AbsState) (subject : Context) (mode : ℕ) (events : List Event) (state : MachineState)
-    → IsDeclaredCase plant states subject mode events state → IsActive state.kernel subject → (c owner : Context) (number : ℕ) → owner ≡ c
+runs_there : (plant : PlantData) (states : List AbsState) (task mode : ℕ) (events : List Event) (state : MachineState)
+    → IsDeclaredCase plant states task mode events state → IsActive state.kernel (contexts.Task task) → (c owner : Context) (number : ℕ) → owner ≡ c
     → running_after plant mode events ≡ Some c → position_of plant.system (begun plant mode events) c ≡ Some number
-    → runs_in_block plant subject owner number (shadow_after plant mode events) ≡ true
-runs_there plant states subject mode events state case active c owner number same runs_now began =
-    let told = told_of plant states subject mode events state case in
-    both_true _ _ (active_in plant mode events state told subject active)
+    → runs_in_block plant task owner number (shadow_after plant mode events) ≡ true
+runs_there plant states task mode events state case active c owner number same runs_now began =
+    let told = told_of plant states task mode events state case in
+    both_true _ _ (active_in plant mode events state told (contexts.Task task) active)
     (both_true _ _ (is_this_one owner (running_in plant (shadow_after plant mode events))
     (runs_in plant mode events state told ∙ (runs_now ∙ ap Some (sym same))))
     (ap (λ (bs : List (Option ℕ)). option_map_or (nat_eq number) (position_of plant.system bs owner) false) told.blocks
     ∙ (ap (λ (d : Context). option_map_or (nat_eq number) (position_of plant.system (begun plant mode events) d) false) same
     ∙ (ap (λ (o : Option ℕ). option_map_or (nat_eq number) o false) began ∙ eq-eqb number number refl))))
 
-begins_passes : (plant : PlantData) (states : List AbsState) (subject : Context) (mode number : ℕ) (block : Block) → slice_get plant.blocks.blocks number ≡ Some block
-    → (events : List Event) (state : MachineState) → IsDeclaredCase plant states subject mode events state
-    → IsActive state.kernel subject → (c : Context) (visit : Column) → running_after plant mode events ≡ Some c
+begins_passes : (plant : PlantData) (states : List AbsState) (task mode number : ℕ) (block : Block) → slice_get plant.blocks.blocks number ≡ Some block
+    → (events : List Event) (state : MachineState) → IsDeclaredCase plant states task mode events state
+    → IsActive state.kernel (contexts.Task task) → (c : Context) (visit : Column) → running_after plant mode events ≡ Some c
     → IsVisit plant (position_of plant.system (begun plant mode events) c) c visit
-    → begins number visit ≤ one (runs_in_block plant subject (context_at plant.system block.begin.owner) number (shadow_after plant mode events))
-begins_passes plant states subject mode number block there events state case active c (Starts start) runs_now is = omega arith
-begins_passes plant states subject mode number block there events state case active c (Moves going) runs_now is = omega arith
-begins_passes plant states subject mode number block there events state case active c (Goes along) runs_now is = omega arith
-begins_passes plant states subject mode number block there events state case active c (Begins other) runs_now is =
+    → begins number visit ≤ one (runs_in_block plant task (context_at plant.system block.begin.owner) number (shadow_after plant mode events))
+begins_passes plant states task mode number block there events state case active c (Starts start) runs_now is = omega arith
+begins_passes plant states task mode number block there events state case active c (Moves going) runs_now is = omega arith
+begins_passes plant states task mode number block there events state case active c (Goes along) runs_now is = omega arith
+begins_passes plant states task mode number block there events state case active c (Begins other) runs_now is =
     one_if (nat_eq number other) _ (λ e.
     let same : number ≡ other = eqb-true number other e in
     let began : position_of plant.system (begun plant mode events) c ≡ Some number = is ∙ ap Some (sym same) in
-    runs_there plant states subject mode events state case active c (context_at plant.system block.begin.owner) number
-    (begun_owner plant states subject mode events state case c runs_now number block began there) runs_now began)
-begins_passes plant states subject mode number block there events state case active c (Stands node) runs_now is = omega arith
+    runs_there plant states task mode events state case active c (context_at plant.system block.begin.owner) number
+    (begun_owner plant states task mode events state case c runs_now number block began there) runs_now began)
+begins_passes plant states task mode number block there events state case active c (Stands node) runs_now is = omega arith
 
 -- ---- It is begun only by its moves
 
@@ -206,26 +206,26 @@ serve_most plant is number block there call node stands going label exist activa
     let is_one = ap one begins_it in omega arith) call.reply.ended in
     omega arith
 
-begins_most : (plant : PlantData) (states : List AbsState) (subject : Context) (mode number : ℕ) (block : Block) → slice_get plant.blocks.blocks number ≡ Some block
-    → (event : Event) (earlier : List Event) (before after : MachineState) → IsLater plant states subject mode event earlier before after
+begins_most : (plant : PlantData) (states : List AbsState) (task mode number : ℕ) (block : Block) → slice_get plant.blocks.blocks number ≡ Some block
+    → (event : Event) (earlier : List Event) (before after : MachineState) → IsLater plant states task mode event earlier before after
     → newly plant (begins number) event ≤ sum_option (moves_count (begins_block plant block.begin)) (used_by plant mode event earlier)
-begins_most plant states subject mode number block there (Arrive arrival) earlier before after later = omega arith
-begins_most plant states subject mode number block there (Take taking) earlier before after later =
+begins_most plant states task mode number block there (Arrive arrival) earlier before after later = omega arith
+begins_most plant states task mode number block there (Take taking) earlier before after later =
     entries_most plant later.case.of.belongs number block there (going_by plant mode (labels.Take taking.source) (Take taking) earlier) taking.started
-    (contexts_exist plant states subject mode (Take taking) earlier before after later)
-    (λ c e. take_begins plant states subject mode taking earlier before after later c e)
-begins_most plant states subject mode number block there (Execute execution) earlier before after later = omega arith
-begins_most plant states subject mode number block there (Serve call) earlier before after later =
-    let covered : CallsAtExit plant mode call earlier before after = (step_of plant states subject mode (Serve call) earlier before after later).0 in
+    (contexts_exist plant states task mode (Take taking) earlier before after later)
+    (λ c e. take_begins plant states task mode taking earlier before after later c e)
+begins_most plant states task mode number block there (Execute execution) earlier before after later = omega arith
+begins_most plant states task mode number block there (Serve call) earlier before after later =
+    let covered : CallsAtExit plant mode call earlier before after = (step_of plant states task mode (Serve call) earlier before after later).0 in
     let going : Going = going_by plant mode (labels.Service covered.node) (Serve call) earlier in
     let most = serve_most plant later.case.of.belongs number block there call covered.node covered.stands going refl
-    (contexts_exist plant states subject mode (Serve call) earlier before after later).1
-    (λ c e. serve_begins plant states subject mode call earlier before after later covered.node covered.stands c e) block.begin.after refl in
+    (contexts_exist plant states task mode (Serve call) earlier before after later).1
+    (λ c e. serve_begins plant states task mode call earlier before after later covered.node covered.stands c e) block.begin.after refl in
     let used : sum_option (moves_count (begins_block plant block.begin)) (used_by plant mode (Serve call) earlier) ≡ one (begins_block plant block.begin going) =
     ap (λ (n : Option ℕ). sum_option (moves_count (begins_block plant block.begin))
     (option_map (λ label. Moves (going_by plant mode label (Serve call) earlier)) (option_map labels.Service n))) covered.stands in
     omega arith
-begins_most plant states subject mode number block there (Idle cycles) earlier before after later = omega arith
+begins_most plant states task mode number block there (Idle cycles) earlier before after later = omega arith
 
 -- at the opening no block's visit waits
 none_stand : (number : ℕ) (nodes : List (Option ℕ)) → sum_waiting (begins number) (map (λ node. option_map Stands node) nodes) ≡ 0
@@ -233,9 +233,9 @@ none_stand number [] = refl
 none_stand number (None ∷ nodes) = let more = none_stand number nodes in omega arith
 none_stand number (Some node ∷ nodes) = let more = none_stand number nodes in omega arith
 
-begins_inducts : (plant : PlantData) (states : List AbsState) (subject : Context) (mode number : ℕ) (block : Block) → slice_get plant.blocks.blocks number ≡ Some block
-    → Inducts plant states subject mode (IsBegun (begins number) (moves_count (begins_block plant block.begin)))
-begins_inducts plant states subject mode number block there = record {
+begins_inducts : (plant : PlantData) (states : List AbsState) (task mode number : ℕ) (block : Block) → slice_get plant.blocks.blocks number ≡ Some block
+    → Inducts plant states task mode (IsBegun (begins number) (moves_count (begins_block plant block.begin)))
+begins_inducts plant states task mode number block there = record {
   starts = λ state case is. opened_begun plant mode (begins number) (moves_count (begins_block plant block.begin)) (Some (Starts (In mode))) [] state
       (let none = none_stand number (nodes_after plant mode []) in omega arith);
   begins = λ event earlier before after later is.
@@ -245,7 +245,7 @@ begins_inducts plant states subject mode number block there = record {
   goes_on = λ event earlier before after window later new on is_open was.
       gone_on_begun plant mode (begins number) (moves_count (begins_block plant block.begin)) event earlier before after window
       (let step = step_none plant (begins number) (begins_visits number) mode event earlier in
-      let most = begins_most plant states subject mode number block there event earlier before after later in omega arith) was;
+      let most = begins_most plant states task mode number block there event earlier before after later in omega arith) was;
 }
 
 -- ---- The rows
@@ -253,46 +253,46 @@ begins_inducts plant states subject mode number block there = record {
 pub all_two : {X : Type 0} (P : X → Type 0) (x y : X) → P x → P y → All P (x ∷ y ∷ [])
 all_two P x y p q = All-cons P x (y ∷ []) p (All-cons P y [] q (All-nil P))
 
-moved_row_meets : (plant : PlantData) (states : List AbsState) (subject : Context) (mode : ℕ) (events : List Event) (state : MachineState)
+moved_row_meets : (plant : PlantData) (states : List AbsState) (task mode : ℕ) (events : List Event) (state : MachineState)
     (uses : List Column) (since : ℕ)
-    → IsDeclaredCase plant states subject mode events state → IsUsed plant subject mode events uses since
+    → IsDeclaredCase plant states task mode events state → IsUsed plant task mode events uses since
     → (number : ℕ) (block : Block) → slice_get plant.blocks.blocks number ≡ Some block → Meets uses (begins_by_move plant number block.begin)
-moved_row_meets plant states subject mode events state uses since case used number block there =
-    let most = begun_at_most plant states subject mode (begins number) (moves_count (begins_block plant block.begin)) (begins_visits number)
-    (begins_inducts plant states subject mode number block there) events state uses since case used in
+moved_row_meets plant states task mode events state uses since case used number block there =
+    let most = begun_at_most plant states task mode (begins number) (moves_count (begins_block plant block.begin)) (begins_visits number)
+    (begins_inducts plant states task mode number block there) events state uses since case used in
     meets_by (begins_by_move plant number block.begin).factor (begins number) (moves_count (begins_block plant block.begin)) 0 uses
     (λ column. difference_counted (begins_that (nat_eq number) column) (moves_that (begins_block plant block.begin) column) _ _
     (begins_counted (nat_eq number) column) (moves_counted (begins_block plant block.begin) column)) (omega arith)
 
-entered_row_meets : (plant : PlantData) (states : List AbsState) (subject : Context) (mode : ℕ) (events : List Event) (state : MachineState)
+entered_row_meets : (plant : PlantData) (states : List AbsState) (task mode : ℕ) (events : List Event) (state : MachineState)
     (uses : List Column) (since : ℕ)
-    → IsDeclaredCase plant states subject mode events state → IsUsed plant subject mode events uses since
-    → (number : ℕ) (block : Block) → slice_get plant.blocks.blocks number ≡ Some block → Meets uses (begins_into plant subject number (context_at plant.system block.begin.owner))
-entered_row_meets plant states subject mode events state uses since case used number block there =
-    let test : AbsState → Bool = runs_in_block plant subject (context_at plant.system block.begin.owner) number in
-    let most = entered_at_most plant states subject mode (begins number) test (begins_visits number)
-    (begins_passes plant states subject mode number block there) events state uses since case used in
-    meets_by (begins_into plant subject number (context_at plant.system block.begin.owner)).factor (begins number) (into_count plant subject test) 0 uses
-    (λ column. difference_counted (begins_that (nat_eq number) column) (into plant subject test column) _ _
-    (begins_counted (nat_eq number) column) (into_counted plant subject test column)) (omega arith)
+    → IsDeclaredCase plant states task mode events state → IsUsed plant task mode events uses since
+    → (number : ℕ) (block : Block) → slice_get plant.blocks.blocks number ≡ Some block → Meets uses (begins_into plant task number (context_at plant.system block.begin.owner))
+entered_row_meets plant states task mode events state uses since case used number block there =
+    let test : AbsState → Bool = runs_in_block plant task (context_at plant.system block.begin.owner) number in
+    let most = entered_at_most plant states task mode (begins number) test (begins_visits number)
+    (begins_passes plant states task mode number block there) events state uses since case used in
+    meets_by (begins_into plant task number (context_at plant.system block.begin.owner)).factor (begins number) (into_count plant task test) 0 uses
+    (λ column. difference_counted (begins_that (nat_eq number) column) (into plant task test column) _ _
+    (begins_counted (nat_eq number) column) (into_counted plant task test column)) (omega arith)
 
-rows_meet : (plant : PlantData) (states : List AbsState) (subject : Context) (mode : ℕ) (events : List Event) (state : MachineState) (uses : List Column) (since : ℕ)
-    → IsDeclaredCase plant states subject mode events state → IsUsed plant subject mode events uses since
-    → (number : ℕ) (block : Block) → slice_get plant.blocks.blocks number ≡ Some block → All (Meets uses) (beginning_rows plant subject number block)
-rows_meet plant states subject mode events state uses since case used number block there =
-    all_two (Meets uses) (begins_by_move plant number block.begin) (begins_into plant subject number (context_at plant.system block.begin.owner))
-    (moved_row_meets plant states subject mode events state uses since case used number block there)
-    (entered_row_meets plant states subject mode events state uses since case used number block there)
+rows_meet : (plant : PlantData) (states : List AbsState) (task mode : ℕ) (events : List Event) (state : MachineState) (uses : List Column) (since : ℕ)
+    → IsDeclaredCase plant states task mode events state → IsUsed plant task mode events uses since
+    → (number : ℕ) (block : Block) → slice_get plant.blocks.blocks number ≡ Some block → All (Meets uses) (beginning_rows plant task number block)
+rows_meet plant states task mode events state uses since case used number block there =
+    all_two (Meets uses) (begins_by_move plant number block.begin) (begins_into plant task number (context_at plant.system block.begin.owner))
+    (moved_row_meets plant states task mode events state uses since case used number block there)
+    (entered_row_meets plant states task mode events state uses since case used number block there)
 
 pub all_flat_map : {A B : Type 0} (P : B → Type 0) (f : A → List B) (xs : List A) → ((x : A) → All P (f x)) → All P (flat_map f xs)
 all_flat_map P f [] each = All-nil P
 all_flat_map P f (x ∷ xs) each = All-append P (f x) (flat_map f xs) (each x) (all_flat_map P f xs each)
 
 pub meets_beginning : MeetsBeginning
-meets_beginning plant states subject mode events state uses since case used =
-    all_flat_map (Meets uses) (λ number. option_map_or (beginning_rows plant subject number) (slice_get plant.blocks.blocks number) [])
-    (begun_blocks plant subject) (λ number. of number (slice_get plant.blocks.blocks number) refl)
+meets_beginning plant states task mode events state uses since case used =
+    all_flat_map (Meets uses) (λ number. option_map_or (beginning_rows plant task number) (slice_get plant.blocks.blocks number) [])
+    (begun_blocks plant task) (λ number. of number (slice_get plant.blocks.blocks number) refl)
   where
-    of : (number : ℕ) (o : Option Block) → slice_get plant.blocks.blocks number ≡ o → All (Meets uses) (option_map_or (beginning_rows plant subject number) o [])
+    of : (number : ℕ) (o : Option Block) → slice_get plant.blocks.blocks number ≡ o → All (Meets uses) (option_map_or (beginning_rows plant task number) o [])
     of number None e = All-nil (Meets uses)
-    of number (Some block) e = rows_meet plant states subject mode events state uses since case used number block e
+    of number (Some block) e = rows_meet plant states task mode events state uses since case used number block e

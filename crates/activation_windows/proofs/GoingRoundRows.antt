@@ -56,17 +56,17 @@ use Rattle.activation_windows.proofs.Windows.{IsWhole, is_whole}
 -- ---- A window opens
 
 -- a context that stands in the loop waits with a visit that counts
-stands_counts : (plant : PlantData) (states : List AbsState) (subject : Context) (mode : ℕ) (head : Node) (declared : ℕ) (l : Loop) (own : Context) (events : List Event)
+stands_counts : (plant : PlantData) (states : List AbsState) (task mode : ℕ) (head : Node) (declared : ℕ) (l : Loop) (own : Context) (events : List Event)
     (state : MachineState)
-    → IsInstance plant head declared l own → IsDeclaredCase plant states subject mode events state
+    → IsInstance plant head declared l own → IsDeclaredCase plant states task mode events state
     → (standing : Standing) → standing_of plant.system state own ≡ Some standing
     → (rest : List ℕ) → beyond head.sites standing.calls ≡ Some rest → lies_by l standing.place (Some rest) ≡ true
     → sum_option (entries_count (its plant head declared l))
     (position_of plant.system (map (λ node. option_map Stands node) (nodes_after plant mode events)) own) ≡ 1
-stands_counts plant states subject mode head declared l own events state is case standing stands rest string lies =
-    let at = at_node_of plant states subject mode events state own standing case is.exists stands in
+stands_counts plant states task mode head declared l own events state is case standing stands rest string lies =
+    let at = at_node_of plant states task mode events state own standing case is.exists stands in
     let node : position_of plant.system (nodes_after plant mode events) own ≡ Some at.number =
-    nodes_are plant states subject mode events state case own is.exists ∙ (ap (option_and_then (node_of plant own)) stands ∙ at.found) in
+    nodes_are plant states task mode events state case own is.exists ∙ (ap (option_and_then (node_of plant own)) stands ∙ at.found) in
     let visit : position_of plant.system (map (λ node. option_map Stands node) (nodes_after plant mode events)) own ≡ Some (Stands at.number) =
     get_or-map (λ (node : Option ℕ). option_map Stands node) (nodes_after plant mode events) (place_of plant.system own) None ∙ ap (option_map Stands) node in
     let context : (head.context == at.node.context) ≡ true = eq-eqb head.context at.node.context (is.place ∙ sym at.context_is) in
@@ -81,15 +81,15 @@ stands_counts plant states subject mode head declared l own events state is case
     (ap (λ (o : Option Node). option_map_or (lies_within head l) o false) at.listed ∙ within) in
     ap (sum_option (entries_count (its plant head declared l))) visit ∙ (let counts = ap one listed in omega arith)
 
-opening_rounds : (plant : PlantData) (states : List AbsState) (subject : Context) (mode : ℕ) (head : Node) (declared : ℕ) (l : Loop) (own : Context) (events : List Event)
+opening_rounds : (plant : PlantData) (states : List AbsState) (task mode : ℕ) (head : Node) (declared : ℕ) (l : Loop) (own : Context) (events : List Event)
     (state : MachineState) (start : Option Column)
-    → IsInstance plant head declared l own → IsDeclaredCase plant states subject mode events state
+    → IsInstance plant head declared l own → IsDeclaredCase plant states task mode events state
     → sum_option (backs_count (its plant head declared l)) start ≡ 0
     → Rounds plant head declared l own events state (option_to_list start) (map (λ node. option_map Stands node) (nodes_after plant mode events))
-opening_rounds plant states subject mode head declared l own events state start is case none = record {
+opening_rounds plant states task mode head declared l own events state start is case none = record {
   most = (let all = one_use (backs_count (its plant head declared l)) start in omega arith);
   inside = λ standing stands rest string lies waits.
-      absurd (let counts = stands_counts plant states subject mode head declared l own events state is case standing stands rest string lies in omega arith);
+      absurd (let counts = stands_counts plant states task mode head declared l own events state is case standing stands rest string lies in omega arith);
 }
 
 starts_count_nothing : (instance : LoopInstance) (going : MoveLabel → Going) (label : Option MoveLabel)
@@ -101,61 +101,61 @@ begins_nothing : (plant : PlantData) (mode : ℕ) (instance : LoopInstance) (eve
     → sum_option (backs_count instance) (start_by plant mode event earlier) ≡ 0
 begins_nothing plant mode instance event earlier = starts_count_nothing instance (λ label. going_by plant mode label event earlier) (label_of plant event)
 
-opened_rounds : (plant : PlantData) (states : List AbsState) (subject : Context) (mode : ℕ) (head : Node) (declared : ℕ) (l : Loop) (own : Context) (events : List Event)
+opened_rounds : (plant : PlantData) (states : List AbsState) (task mode : ℕ) (head : Node) (declared : ℕ) (l : Loop) (own : Context) (events : List Event)
     (state : MachineState) (start : Option Column)
-    → IsInstance plant head declared l own → IsDeclaredCase plant states subject mode events state
+    → IsInstance plant head declared l own → IsDeclaredCase plant states task mode events state
     → sum_option (backs_count (its plant head declared l)) start ≡ 0
     → Rounds plant head declared l own events state (opened plant mode start events).uses (opened plant mode start events).waiting
-opened_rounds plant states subject mode head declared l own events state start is case none =
-    run_rounds plant states subject mode head declared l own events state
+opened_rounds plant states task mode head declared l own events state start is case none =
+    run_rounds plant states task mode head declared l own events state
     (record { uses = option_to_list start; waiting = map (λ node. option_map Stands node) (nodes_after plant mode events) }) is case
-    (opening_waits plant states subject mode events state case)
-    (opening_rounds plant states subject mode head declared l own events state start is case none) (running_after plant mode events) refl
+    (opening_waits plant states task mode events state case)
+    (opening_rounds plant states task mode head declared l own events state start is case none) (running_after plant mode events) refl
 
 -- ---- A window goes on
 
-step_rounds : (plant : PlantData) (states : List AbsState) (subject : Context) (mode : ℕ) (head : Node) (declared : ℕ) (l : Loop) (own : Context) (event : Event)
+step_rounds : (plant : PlantData) (states : List AbsState) (task mode : ℕ) (head : Node) (declared : ℕ) (l : Loop) (own : Context) (event : Event)
     (earlier : List Event) (before after : MachineState) (window : Window)
-    → IsInstance plant head declared l own → IsLater plant states subject mode event earlier before after → IsWhole plant subject mode earlier before window
+    → IsInstance plant head declared l own → IsLater plant states task mode event earlier before after → IsWhole plant task mode earlier before window
     → Rounds plant head declared l own earlier before window.uses window.waiting
     → Rounds plant head declared l own (event ∷ earlier) after
     (option_to_list (used_by plant mode event earlier) ++ window.uses) (waiting_after plant event window.waiting)
-step_rounds plant states subject mode head declared l own (Arrive arrival) earlier before after window is later whole rounds =
+step_rounds plant states task mode head declared l own (Arrive arrival) earlier before after window is later whole rounds =
     circles_as l head.sites l.bound _ _ _ _ _ _ _ _ _ _ refl refl refl
     (ap (λ (s : MachineState). standing_of plant.system s own) (sym later.step.becomes)) refl rounds
-step_rounds plant states subject mode head declared l own (Take taking) earlier before after window is later whole rounds =
-    take_rounds plant states subject mode head declared l own taking earlier before after window.uses window.waiting is later whole.count rounds
+step_rounds plant states task mode head declared l own (Take taking) earlier before after window is later whole rounds =
+    take_rounds plant states task mode head declared l own taking earlier before after window.uses window.waiting is later whole.count rounds
     (is_this own taking.started) refl
-step_rounds plant states subject mode head declared l own (Execute execution) earlier before after window is later whole rounds =
+step_rounds plant states task mode head declared l own (Execute execution) earlier before after window is later whole rounds =
     let runs_now : running_after plant mode earlier ≡ Some execution.context =
     ap (runs plant.system) (kernel_is plant mode earlier before later.case.of.run) ∙ later.step.running in
-    execute_rounds plant states subject mode head declared l own execution earlier before after window.uses window.waiting is later
+    execute_rounds plant states task mode head declared l own execution earlier before after window.uses window.waiting is later
     (whole.ran execution.context runs_now) rounds (same_context own execution.context) refl
-step_rounds plant states subject mode head declared l own (Serve call) earlier before after window is later whole rounds =
+step_rounds plant states task mode head declared l own (Serve call) earlier before after window is later whole rounds =
     let runs_now : running_after plant mode earlier ≡ Some call.caller =
     ap (runs plant.system) (kernel_is plant mode earlier before later.case.of.run) ∙ later.step.running in
-    serve_rounds plant states subject mode head declared l own call earlier before after window.uses window.waiting is later whole.count
+    serve_rounds plant states task mode head declared l own call earlier before after window.uses window.waiting is later whole.count
     (whole.ran call.caller runs_now) rounds (is_this own (started_by (Serve call))) refl (same_context own call.caller) refl
-step_rounds plant states subject mode head declared l own (Idle cycles) earlier before after window is later whole rounds =
+step_rounds plant states task mode head declared l own (Idle cycles) earlier before after window is later whole rounds =
     circles_as l head.sites l.bound _ _ _ _ _ _ _ _ _ _ refl refl refl
     (ap (λ (s : MachineState). standing_of plant.system s own) (sym later.step.becomes)) refl rounds
 
-rounds_in : (plant : PlantData) (states : List AbsState) (subject : Context) (mode : ℕ) (head : Node) (declared : ℕ) (l : Loop) (own : Context)
+rounds_in : (plant : PlantData) (states : List AbsState) (task mode : ℕ) (head : Node) (declared : ℕ) (l : Loop) (own : Context)
     → IsInstance plant head declared l own
-    → Inducts plant states subject mode (λ events state window. Rounds plant head declared l own events state window.uses window.waiting)
-rounds_in plant states subject mode head declared l own is = record {
-  starts = λ state case active. opened_rounds plant states subject mode head declared l own [] state (Some (Starts (In mode))) is case refl;
+    → Inducts plant states task mode (λ events state window. Rounds plant head declared l own events state window.uses window.waiting)
+rounds_in plant states task mode head declared l own is = record {
+  starts = λ state case active. opened_rounds plant states task mode head declared l own [] state (Some (Starts (In mode))) is case refl;
   begins = λ event earlier before after later starts.
-      opened_rounds plant states subject mode head declared l own (event ∷ earlier) after (start_by plant mode event earlier) is later.whole
+      opened_rounds plant states task mode head declared l own (event ∷ earlier) after (start_by plant mode event earlier) is later.whole
       (begins_nothing plant mode (its plant head declared l) event earlier);
   goes_on = λ event earlier before after window later others stays is_open rounds.
-      run_rounds plant states subject mode head declared l own (event ∷ earlier) after
+      run_rounds plant states task mode head declared l own (event ∷ earlier) after
       (record { uses = option_to_list (used_by plant mode event earlier) ++ window.uses; waiting = waiting_after plant event window.waiting }) is later.whole
-      (after_waits plant mode event earlier window.waiting (contexts_exist plant states subject mode event earlier before after later)
-      (covers_of plant states subject mode earlier before later.case).blocks.count
-      (open_waits plant states subject mode earlier before window later.case is_open))
-      (step_rounds plant states subject mode head declared l own event earlier before after window is later
-      (is_whole plant states subject mode earlier before window later.case is_open) rounds)
+      (after_waits plant mode event earlier window.waiting (contexts_exist plant states task mode event earlier before after later)
+      (covers_of plant states task mode earlier before later.case).blocks.count
+      (open_waits plant states task mode earlier before window later.case is_open))
+      (step_rounds plant states task mode head declared l own event earlier before after window is later
+      (is_whole plant states task mode earlier before window later.case is_open) rounds)
       (running_after plant mode (event ∷ earlier)) refl;
 }
 
@@ -294,24 +294,24 @@ ends_nothing plant mode instance (Serve call) earlier context ends =
     moves_count_nothing instance (λ label. going_by plant mode label (Serve call) earlier) (label_of plant (Serve call))
 ends_nothing plant mode instance (Idle cycles) earlier context ends = absurd (none-some context ends)
 
-open_rounds : (plant : PlantData) (states : List AbsState) (subject : Context) (mode : ℕ) (events : List Event) (state : MachineState) (window : Window)
-    → IsDeclaredCase plant states subject mode events state → open_window plant subject mode events ≡ Some window
+open_rounds : (plant : PlantData) (states : List AbsState) (task mode : ℕ) (events : List Event) (state : MachineState) (window : Window)
+    → IsDeclaredCase plant states task mode events state → open_window plant task mode events ≡ Some window
     → (head : Node) (declared : ℕ) (l : Loop) (own : Context) → IsInstance plant head declared l own
     → sum_by (backs_count (its plant head declared l)) window.uses ≤ l.bound * sum_by (entries_count (its plant head declared l)) window.uses
-open_rounds plant states subject mode events state window case is_open head declared l own is =
-    (of_open plant states subject mode (λ events state window. Rounds plant head declared l own events state window.uses window.waiting)
-    (rounds_in plant states subject mode head declared l own is) events state window case is_open).most
+open_rounds plant states task mode events state window case is_open head declared l own is =
+    (of_open plant states task mode (λ events state window. Rounds plant head declared l own events state window.uses window.waiting)
+    (rounds_in plant states task mode head declared l own is) events state window case is_open).most
 
 pub meets_going_round : MeetsGoingRound
-meets_going_round plant states subject mode =
-    of_used plant states subject mode (λ events state uses since. All (Meets uses) (going_round plant)) (record {
+meets_going_round plant states task mode =
+    of_used plant states task mode (λ events state uses since. All (Meets uses) (going_round plant)) (record {
       while_it_is_open = λ events state window since case is_open active.
-          all_round plant case.of.belongs window.uses (open_rounds plant states subject mode events state window case is_open);
+          all_round plant case.of.belongs window.uses (open_rounds plant states task mode events state window case is_open);
       closes = λ event earlier before after window since later ends is_open active.
           all_round plant later.case.of.belongs (option_to_list (used_by plant mode event earlier) ++ window.uses)
           (λ head declared l own is.
-          let most = open_rounds plant states subject mode earlier before window later.case is_open head declared l own is in
-          let nothing = ends_nothing plant mode (its plant head declared l) event earlier subject ends in
+          let most = open_rounds plant states task mode earlier before window later.case is_open head declared l own is in
+          let nothing = ends_nothing plant mode (its plant head declared l) event earlier (contexts.Task task) ends in
           let backs = unused (backs_count (its plant head declared l)) (used_by plant mode event earlier) window.uses nothing.0 in
           let entries = unused (entries_count (its plant head declared l)) (used_by plant mode event earlier) window.uses nothing.1 in
           subst (λ n. n ≤ l.bound * sum_by (entries_count (its plant head declared l)) (option_to_list (used_by plant mode event earlier) ++ window.uses)) backs

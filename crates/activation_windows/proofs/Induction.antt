@@ -54,18 +54,18 @@ is_this_one c who e = ap (is_this c) e ∙ same_itself c
 -- ---- What the prefixes of a run keep
 
 -- A declared run whose newest step leads from one state to another.
-pub record IsLater (plant : PlantData) (states : List AbsState) (subject : Context) (mode : ℕ) (event : Event) (earlier : List Event) (before after : MachineState)
+pub record IsLater (plant : PlantData) (states : List AbsState) (task mode : ℕ) (event : Event) (earlier : List Event) (before after : MachineState)
     : Type 0 where
-  pub case : IsDeclaredCase plant states subject mode earlier before
+  pub case : IsDeclaredCase plant states task mode earlier before
   pub step : Step plant.image plant.system event before after
   pub pairs : ReturnsPaired plant.image event
   pub declared : IsDeclared plant.image plant.system plant.timing (event ∷ earlier)
-  pub whole : IsDeclaredCase plant states subject mode (event ∷ earlier) after
+  pub whole : IsDeclaredCase plant states task mode (event ∷ earlier) after
 
-pub later_of : (plant : PlantData) (states : List AbsState) (subject : Context) (mode : ℕ) (event : Event) (earlier : List Event) (after : MachineState)
-    → IsDeclaredCase plant states subject mode (event ∷ earlier) after
-    → (before : MachineState) × IsLater plant states subject mode event earlier before after
-later_of plant states subject mode event earlier after case =
+pub later_of : (plant : PlantData) (states : List AbsState) (task mode : ℕ) (event : Event) (earlier : List Event) (after : MachineState)
+    → IsDeclaredCase plant states task mode (event ∷ earlier) after
+    → (before : MachineState) × IsLater plant states task mode event earlier before after
+later_of plant states task mode event earlier after case =
     let of = case.of in (
       of.run.0,
       record {
@@ -83,19 +83,19 @@ later_of plant states subject mode event earlier after case =
     )
 
 -- what the simulation says after a run, and of a step
-pub covered_of : (plant : PlantData) (states : List AbsState) (subject : Context) (mode : ℕ) (events : List Event) (state : MachineState)
-    → IsDeclaredCase plant states subject mode events state → IsCovered plant states mode events state
-covered_of plant states subject mode events state case = runs_are_covered plant states mode events state case.of
+pub covered_of : (plant : PlantData) (states : List AbsState) (task mode : ℕ) (events : List Event) (state : MachineState)
+    → IsDeclaredCase plant states task mode events state → IsCovered plant states mode events state
+covered_of plant states task mode events state case = runs_are_covered plant states mode events state case.of
 
-pub covers_of : (plant : PlantData) (states : List AbsState) (subject : Context) (mode : ℕ) (events : List Event) (state : MachineState)
-    → IsDeclaredCase plant states subject mode events state → Covers plant states mode events state
-covers_of plant states subject mode events state case =
+pub covers_of : (plant : PlantData) (states : List AbsState) (task mode : ℕ) (events : List Event) (state : MachineState)
+    → IsDeclaredCase plant states task mode events state → Covers plant states mode events state
+covers_of plant states task mode events state case =
     (covers plant states mode events state case.of.belongs case.of.closed case.of.run case.of.pairs).0
 
-pub step_of : (plant : PlantData) (states : List AbsState) (subject : Context) (mode : ℕ) (event : Event) (earlier : List Event) (before after : MachineState)
-    → IsLater plant states subject mode event earlier before after
+pub step_of : (plant : PlantData) (states : List AbsState) (task mode : ℕ) (event : Event) (earlier : List Event) (before after : MachineState)
+    → IsLater plant states task mode event earlier before after
     → StepIsCovered plant mode event earlier before after × IsNoMisuse event
-step_of plant states subject mode event earlier before after later =
+step_of plant states task mode event earlier before after later =
     steps_are_covered plant states mode event earlier before after (record { before_it = later.case.of; step = later.step; pairs = later.pairs })
 
 -- ---- The kernel and the shadow that the steps tell
@@ -127,71 +127,71 @@ shadow_is plant mode events state run =
 
 -- A property of an open window, of the run so far and of its state: at the start of the run, at a step that starts the
 -- task, and at each other step that doesn't end it.
-pub record Inducts (plant : PlantData) (states : List AbsState) (subject : Context) (mode : ℕ) (P : List Event → MachineState → Window → Type 0) : Type 0 where
-  pub starts : (state : MachineState) → IsDeclaredCase plant states subject mode [] state
-      → is_active (kernels.initial plant.system mode) subject ≡ true
+pub record Inducts (plant : PlantData) (states : List AbsState) (task mode : ℕ) (P : List Event → MachineState → Window → Type 0) : Type 0 where
+  pub starts : (state : MachineState) → IsDeclaredCase plant states task mode [] state
+      → is_active (kernels.initial plant.system mode) (contexts.Task task) ≡ true
       → P [] state (opened plant mode (Some (Starts (In mode))) [])
-  pub begins : (event : Event) (earlier : List Event) (before after : MachineState) → IsLater plant states subject mode event earlier before after
-      → started_by event ≡ Some subject
+  pub begins : (event : Event) (earlier : List Event) (before after : MachineState) → IsLater plant states task mode event earlier before after
+      → started_by event ≡ Some (contexts.Task task)
       → P (event ∷ earlier) after (opened plant mode (start_by plant mode event earlier) (event ∷ earlier))
   pub goes_on : (event : Event) (earlier : List Event) (before after : MachineState) (window : Window)
-      → IsLater plant states subject mode event earlier before after
-      → is_this subject (started_by event) ≡ false → is_this subject (ended_by event) ≡ false
-      → open_window plant subject mode earlier ≡ Some window → P earlier before window
+      → IsLater plant states task mode event earlier before after
+      → is_this (contexts.Task task) (started_by event) ≡ false → is_this (contexts.Task task) (ended_by event) ≡ false
+      → open_window plant task mode earlier ≡ Some window → P earlier before window
       → P (event ∷ earlier) after (gone_on plant mode event earlier window)
 
-start_holds : (plant : PlantData) (states : List AbsState) (subject : Context) (mode : ℕ) (P : List Event → MachineState → Window → Type 0)
-    → Inducts plant states subject mode P → (state : MachineState) (window : Window) → IsDeclaredCase plant states subject mode [] state
-    → (active : Bool) → is_active (kernels.initial plant.system mode) subject ≡ active
+start_holds : (plant : PlantData) (states : List AbsState) (task mode : ℕ) (P : List Event → MachineState → Window → Type 0)
+    → Inducts plant states task mode P → (state : MachineState) (window : Window) → IsDeclaredCase plant states task mode [] state
+    → (active : Bool) → is_active (kernels.initial plant.system mode) (contexts.Task task) ≡ active
     → cond active (Some (opened plant mode (Some (Starts (In mode))) [])) None ≡ Some window → P [] state window
-start_holds plant states subject mode P inducts state window case true is e =
+start_holds plant states task mode P inducts state window case true is e =
     subst (P [] state) (same_Some _ window e) (inducts.starts state case is)
-start_holds plant states subject mode P inducts state window case false is e = absurd (none-some window e)
+start_holds plant states task mode P inducts state window case false is e = absurd (none-some window e)
 
-step_holds : (plant : PlantData) (states : List AbsState) (subject : Context) (mode : ℕ) (P : List Event → MachineState → Window → Type 0)
-    → Inducts plant states subject mode P → (event : Event) (earlier : List Event) (before after : MachineState) (window : Window)
-    → IsLater plant states subject mode event earlier before after
-    → ((earlier_one : Window) → open_window plant subject mode earlier ≡ Some earlier_one → P earlier before earlier_one)
-    → (starts ends : Bool) → is_this subject (started_by event) ≡ starts → is_this subject (ended_by event) ≡ ends
-    → (known : Option Window) → open_window plant subject mode earlier ≡ known
+step_holds : (plant : PlantData) (states : List AbsState) (task mode : ℕ) (P : List Event → MachineState → Window → Type 0)
+    → Inducts plant states task mode P → (event : Event) (earlier : List Event) (before after : MachineState) (window : Window)
+    → IsLater plant states task mode event earlier before after
+    → ((earlier_one : Window) → open_window plant task mode earlier ≡ Some earlier_one → P earlier before earlier_one)
+    → (starts ends : Bool) → is_this (contexts.Task task) (started_by event) ≡ starts → is_this (contexts.Task task) (ended_by event) ≡ ends
+    → (known : Option Window) → open_window plant task mode earlier ≡ known
     → cond starts (Some (opened plant mode (start_by plant mode event earlier) (event ∷ earlier)))
     (cond ends None (option_map (gone_on plant mode event earlier) known)) ≡ Some window
     → P (event ∷ earlier) after window
-step_holds plant states subject mode P inducts event earlier before after window later held true ends is ending known is_open e =
+step_holds plant states task mode P inducts event earlier before after window later held true ends is ending known is_open e =
     subst (P (event ∷ earlier) after) (same_Some _ window e)
-    (inducts.begins event earlier before after later (this_is subject (started_by event) is))
-step_holds plant states subject mode P inducts event earlier before after window later held false true is ending known is_open e =
+    (inducts.begins event earlier before after later (this_is (contexts.Task task) (started_by event) is))
+step_holds plant states task mode P inducts event earlier before after window later held false true is ending known is_open e =
     absurd (none-some window e)
-step_holds plant states subject mode P inducts event earlier before after window later held false false is ending None is_open e =
+step_holds plant states task mode P inducts event earlier before after window later held false false is ending None is_open e =
     absurd (none-some window e)
-step_holds plant states subject mode P inducts event earlier before after window later held false false is ending (Some one) is_open e =
+step_holds plant states task mode P inducts event earlier before after window later held false false is ending (Some one) is_open e =
     subst (P (event ∷ earlier) after) (same_Some _ window e)
     (inducts.goes_on event earlier before after one later is ending is_open (held one is_open))
 
 -- So it holds of every open window.
-pub of_open : (plant : PlantData) (states : List AbsState) (subject : Context) (mode : ℕ) (P : List Event → MachineState → Window → Type 0)
-    → Inducts plant states subject mode P → (events : List Event) (state : MachineState) (window : Window)
-    → IsDeclaredCase plant states subject mode events state → open_window plant subject mode events ≡ Some window → P events state window
-of_open plant states subject mode P inducts [] state window case e =
-    start_holds plant states subject mode P inducts state window case (is_active (kernels.initial plant.system mode) subject) refl e
-of_open plant states subject mode P inducts (event ∷ earlier) state window case e =
-    let later = later_of plant states subject mode event earlier state case in
-    step_holds plant states subject mode P inducts event earlier later.0 state window later.1
-    (λ one is_open. of_open plant states subject mode P inducts earlier later.0 one later.1.case is_open)
-    (is_this subject (started_by event)) (is_this subject (ended_by event)) refl refl
-    (open_window plant subject mode earlier) refl e
+pub of_open : (plant : PlantData) (states : List AbsState) (task mode : ℕ) (P : List Event → MachineState → Window → Type 0)
+    → Inducts plant states task mode P → (events : List Event) (state : MachineState) (window : Window)
+    → IsDeclaredCase plant states task mode events state → open_window plant task mode events ≡ Some window → P events state window
+of_open plant states task mode P inducts [] state window case e =
+    start_holds plant states task mode P inducts state window case (is_active (kernels.initial plant.system mode) (contexts.Task task)) refl e
+of_open plant states task mode P inducts (event ∷ earlier) state window case e =
+    let later = later_of plant states task mode event earlier state case in
+    step_holds plant states task mode P inducts event earlier later.0 state window later.1
+    (λ one is_open. of_open plant states task mode P inducts earlier later.0 one later.1.case is_open)
+    (is_this (contexts.Task task) (started_by event)) (is_this (contexts.Task task) (ended_by event)) refl refl
+    (open_window plant task mode earlier) refl e
 
 -- ---- What is used
 
 -- A property of what is used, of the run and of its state: while a window is open, and at the step that closes it.
-pub record OfUses (plant : PlantData) (states : List AbsState) (subject : Context) (mode : ℕ) (R : List Event → MachineState → List Column → ℕ → Type 0) : Type 0 where
+pub record OfUses (plant : PlantData) (states : List AbsState) (task mode : ℕ) (R : List Event → MachineState → List Column → ℕ → Type 0) : Type 0 where
   pub while_it_is_open : (events : List Event) (state : MachineState) (window : Window) (since : ℕ)
-      → IsDeclaredCase plant states subject mode events state
-      → open_window plant subject mode events ≡ Some window → active_since plant.system mode subject events ≡ Some since
+      → IsDeclaredCase plant states task mode events state
+      → open_window plant task mode events ≡ Some window → active_since plant.system mode task events ≡ Some since
       → R events state window.uses since
   pub closes : (event : Event) (earlier : List Event) (before after : MachineState) (window : Window) (since : ℕ)
-      → IsLater plant states subject mode event earlier before after → ended_by event ≡ Some subject
-      → open_window plant subject mode earlier ≡ Some window → active_since plant.system mode subject earlier ≡ Some since
+      → IsLater plant states task mode event earlier before after → ended_by event ≡ Some (contexts.Task task)
+      → open_window plant task mode earlier ≡ Some window → active_since plant.system mode task earlier ≡ Some since
       → R (event ∷ earlier) after (option_to_list (used_by plant mode event earlier) ++ window.uses) since
 
 -- a window of these uses is open
@@ -207,15 +207,15 @@ closing_uses last false known uses e = absurd (none-some uses e)
 closing_uses last true None uses e = absurd (none-some uses e)
 closing_uses last true (Some window) uses e = (window, refl, refl, same_Some (last ++ window.uses) uses e)
 
-pub of_used : (plant : PlantData) (states : List AbsState) (subject : Context) (mode : ℕ) (R : List Event → MachineState → List Column → ℕ → Type 0)
-    → OfUses plant states subject mode R → (events : List Event) (state : MachineState) (uses : List Column) (since : ℕ)
-    → IsDeclaredCase plant states subject mode events state → IsUsed plant subject mode events uses since → R events state uses since
-of_used plant states subject mode R all events state uses since case (while_open _ _ _ is_open active) =
-    let window = open_uses (open_window plant subject mode events) uses is_open in
+pub of_used : (plant : PlantData) (states : List AbsState) (task mode : ℕ) (R : List Event → MachineState → List Column → ℕ → Type 0)
+    → OfUses plant states task mode R → (events : List Event) (state : MachineState) (uses : List Column) (since : ℕ)
+    → IsDeclaredCase plant states task mode events state → IsUsed plant task mode events uses since → R events state uses since
+of_used plant states task mode R all events state uses since case (while_open _ _ _ is_open active) =
+    let window = open_uses (open_window plant task mode events) uses is_open in
     subst (λ (us : List Column). R events state us since) window.2 (all.while_it_is_open events state window.0 since case window.1 active)
-of_used plant states subject mode R all _ state uses since case (closed_now event earlier _ _ closed active) =
-    let later = later_of plant states subject mode event earlier state case in
-    let window = closing_uses (option_to_list (used_by plant mode event earlier)) (is_this subject (ended_by event))
-    (open_window plant subject mode earlier) uses closed in
+of_used plant states task mode R all _ state uses since case (closed_now event earlier _ _ closed active) =
+    let later = later_of plant states task mode event earlier state case in
+    let window = closing_uses (option_to_list (used_by plant mode event earlier)) (is_this (contexts.Task task) (ended_by event))
+    (open_window plant task mode earlier) uses closed in
     subst (λ (us : List Column). R (event ∷ earlier) state us since) window.3
-    (all.closes event earlier later.0 state window.0 since later.1 (this_is subject (ended_by event) window.1) window.2 active)
+    (all.closes event earlier later.0 state window.0 since later.1 (this_is (contexts.Task task) (ended_by event) window.1) window.2 active)

@@ -78,9 +78,9 @@ pub record Turns (plant : PlantData) (execution : Execution) (takes : TakesEdge 
   pub laps_are : (l : Loop) (laps : List ℕ) → turned l (turn_at (insn_at plant.image) execution.before.place) execution laps
       ≡ turned_by l turn takes.at.node takes.next laps
 
-pub turns_in : (plant : PlantData) (states : List AbsState) (subject : Context) (mode : ℕ) (execution : Execution) (earlier : List Event) (before after : MachineState)
-    → IsLater plant states subject mode (Execute execution) earlier before after → (takes : TakesEdge plant execution) → Turns plant execution takes
-turns_in plant states subject mode execution earlier before after later takes =
+pub turns_in : (plant : PlantData) (states : List AbsState) (task mode : ℕ) (execution : Execution) (earlier : List Event) (before after : MachineState)
+    → IsLater plant states task mode (Execute execution) earlier before after → (takes : TakesEdge plant execution) → Turns plant execution takes
+turns_in plant states task mode execution earlier before after later takes =
     let step : Executes plant.image plant.system execution before after = later.step in
     let code = insn_at plant.image in
     let turn : Turn = turn_from code step.step.insn execution.before in
@@ -135,40 +135,40 @@ entry_laps plant l c event earlier registers standing is at =
     let laps = ap length (laps_new plant l c event earlier is) in
     omega arith
 
-take_laps : (plant : PlantData) (states : List AbsState) (subject : Context) (mode : ℕ) (l : Loop) (taking : Taking) (earlier : List Event) (before after : MachineState)
-    → IsLater plant states subject mode (Take taking) earlier before after → HasLaps plant l earlier before
+take_laps : (plant : PlantData) (states : List AbsState) (task mode : ℕ) (l : Loop) (taking : Taking) (earlier : List Event) (before after : MachineState)
+    → IsLater plant states task mode (Take taking) earlier before after → HasLaps plant l earlier before
     → (c : Context) (standing : Standing) → IsContext plant.system c
     → position_of plant.system (started plant.system (at_entry plant.image plant.system taking.registers) taking.started before.standings) c ≡ Some standing
     → (starts : Bool) → is_this c taking.started ≡ starts → length (laps_of plant.image l c (Take taking ∷ earlier)) ≡ length standing.calls + 1
-take_laps plant states subject mode l taking earlier before after later had c standing exists at true is =
+take_laps plant states task mode l taking earlier before after later had c standing exists at true is =
     entry_laps plant l c (Take taking) earlier taking.registers standing is
     (sym (started_here plant.system (at_entry plant.image plant.system taking.registers) taking.started c before.standings exists
-    (covers_of plant states subject mode earlier before later.case).room.positions.count is) ∙ at)
-take_laps plant states subject mode l taking earlier before after later had c standing exists at false is =
+    (covers_of plant states task mode earlier before later.case).room.positions.count is) ∙ at)
+take_laps plant states task mode l taking earlier before after later had c standing exists at false is =
     ap length (laps_old plant l c (Take taking) earlier is)
     ∙ had c standing exists (sym (started_other plant.system (at_entry plant.image plant.system taking.registers) taking.started c before.standings exists
-    (contexts_exist plant states subject mode (Take taking) earlier before after later) is) ∙ at)
+    (contexts_exist plant states task mode (Take taking) earlier before after later) is) ∙ at)
 
-take_stands : (plant : PlantData) (states : List AbsState) (subject : Context) (mode : ℕ) (taking : Taking) (earlier : List Event) (before after : MachineState)
-    → IsLater plant states subject mode (Take taking) earlier before after → (c : Context) (standing : Standing)
+take_stands : (plant : PlantData) (states : List AbsState) (task mode : ℕ) (taking : Taking) (earlier : List Event) (before after : MachineState)
+    → IsLater plant states task mode (Take taking) earlier before after → (c : Context) (standing : Standing)
     → standing_of plant.system after c ≡ Some standing
     → position_of plant.system (started plant.system (at_entry plant.image plant.system taking.registers) taking.started before.standings) c ≡ Some standing
-take_stands plant states subject mode taking earlier before after later c standing stands =
+take_stands plant states task mode taking earlier before after later c standing stands =
     let step : Takes plant.image plant.system taking before after = later.step in
     ap (λ (w : Option Context). position_of plant.system
     (started plant.system (at_entry plant.image plant.system taking.registers) w before.standings) c) step.started
     ∙ (ap (λ (s : MachineState). standing_of plant.system s c) (sym step.becomes) ∙ stands)
 
-execute_laps : (plant : PlantData) (states : List AbsState) (subject : Context) (mode : ℕ) (l : Loop) (execution : Execution) (earlier : List Event)
+execute_laps : (plant : PlantData) (states : List AbsState) (task mode : ℕ) (l : Loop) (execution : Execution) (earlier : List Event)
     (before after : MachineState)
-    → IsLater plant states subject mode (Execute execution) earlier before after → HasLaps plant l earlier before
+    → IsLater plant states task mode (Execute execution) earlier before after → HasLaps plant l earlier before
     → (c : Context) (standing : Standing) → IsContext plant.system c → standing_of plant.system after c ≡ Some standing
     → (own : Bool) → same_context c execution.context ≡ own → length (laps_of plant.image l c (Execute execution ∷ earlier)) ≡ length standing.calls + 1
-execute_laps plant states subject mode l execution earlier before after later had c standing exists stands true is =
+execute_laps plant states task mode l execution earlier before after later had c standing exists stands true is =
     let step : Executes plant.image plant.system execution before after = later.step in
-    let all = covers_of plant states subject mode earlier before later.case in
-    let takes = edge_in plant states subject mode execution earlier before after later in
-    let turns = turns_in plant states subject mode execution earlier before after later takes in
+    let all = covers_of plant states task mode earlier before later.case in
+    let takes = edge_in plant states task mode execution earlier before after later in
+    let turns = turns_in plant states task mode execution earlier before after later takes in
     let who : execution.context ≡ c = same_Some execution.context c (this_is c (Some execution.context) is) in
     let there : IsContext plant.system execution.context = running_exists plant.system before execution.context all.room step.running in
     let laps = laps_of plant.image l c earlier in
@@ -186,9 +186,9 @@ execute_laps plant states subject mode l execution earlier before after later ha
     let turned_are = ap length (ap (λ b. cond b (turned l (turn_at (insn_at plant.image) execution.before.place) execution laps) laps) is
     ∙ turns.laps_are l laps) in
     omega arith
-execute_laps plant states subject mode l execution earlier before after later had c standing exists stands false is =
+execute_laps plant states task mode l execution earlier before after later had c standing exists stands false is =
     let step : Executes plant.image plant.system execution before after = later.step in
-    let all = covers_of plant states subject mode earlier before later.case in
+    let all = covers_of plant states task mode earlier before later.case in
     let there : IsContext plant.system execution.context = running_exists plant.system before execution.context all.room step.running in
     let laps = laps_of plant.image l c earlier in
     ap length (ap (λ b. cond b (turned l (turn_at (insn_at plant.image) execution.before.place) execution laps) laps) is)
@@ -201,17 +201,17 @@ caller_at : (ended : Option Context) (next standing : Standing) → cond (is_som
 caller_at None next standing e = (refl, same_Some next standing e)
 caller_at (Some d) next standing e = absurd (none-some standing e)
 
-serve_other : (plant : PlantData) (states : List AbsState) (subject : Context) (mode : ℕ) (l : Loop) (call : ServiceCall) (earlier : List Event)
+serve_other : (plant : PlantData) (states : List AbsState) (task mode : ℕ) (l : Loop) (call : ServiceCall) (earlier : List Event)
     (before after : MachineState)
-    → IsLater plant states subject mode (Serve call) earlier before after → HasLaps plant l earlier before
+    → IsLater plant states task mode (Serve call) earlier before after → HasLaps plant l earlier before
     → (c : Context) (standing : Standing) → IsContext plant.system c
     → position_of plant.system (placed plant.system call.caller (cond (is_some call.reply.ended) None
     (Some (gone_on (served_by plant.system call before).reply.code call.before))) before.standings) c ≡ Some standing
     → (own : Bool) → same_context c call.caller ≡ own
     → length (laps_with plant.image l c (Serve call) (laps_of plant.image l c earlier)) ≡ length standing.calls + 1
-serve_other plant states subject mode l call earlier before after later had c standing exists at true is =
+serve_other plant states task mode l call earlier before after later had c standing exists at true is =
     let step : Serves plant.image plant.system call before after = later.step in
-    let all = covers_of plant states subject mode earlier before later.case in
+    let all = covers_of plant states task mode earlier before later.case in
     let who : call.caller ≡ c = same_Some call.caller c (this_is c (Some call.caller) is) in
     let there : IsContext plant.system call.caller = running_exists plant.system before call.caller all.room step.running in
     let next = gone_on (served_by plant.system call before).reply.code call.before in
@@ -226,9 +226,9 @@ serve_other plant states subject mode l call earlier before after later had c st
     let count = moved_length l call.before.place (following call.before.place) laps in
     let calls = ap (λ (s : Standing). length s.calls) goes.1 in
     omega arith
-serve_other plant states subject mode l call earlier before after later had c standing exists at false is =
+serve_other plant states task mode l call earlier before after later had c standing exists at false is =
     let step : Serves plant.image plant.system call before after = later.step in
-    let all = covers_of plant states subject mode earlier before later.case in
+    let all = covers_of plant states task mode earlier before later.case in
     let there : IsContext plant.system call.caller = running_exists plant.system before call.caller all.room step.running in
     let laps = laps_of plant.image l c earlier in
     let moved = moved_on l call.before.place (following call.before.place) laps in
@@ -240,62 +240,62 @@ abbrev pub gone_standings : PlantData → ServiceCall → MachineState → List 
 gone_standings plant call before = placed plant.system call.caller (cond (is_some call.reply.ended) None
     (Some (gone_on (served_by plant.system call before).reply.code call.before))) before.standings
 
-pub serve_stands : (plant : PlantData) (states : List AbsState) (subject : Context) (mode : ℕ) (call : ServiceCall) (earlier : List Event) (before after : MachineState)
-    → IsLater plant states subject mode (Serve call) earlier before after → (c : Context) (standing : Standing)
+pub serve_stands : (plant : PlantData) (states : List AbsState) (task mode : ℕ) (call : ServiceCall) (earlier : List Event) (before after : MachineState)
+    → IsLater plant states task mode (Serve call) earlier before after → (c : Context) (standing : Standing)
     → standing_of plant.system after c ≡ Some standing
     → position_of plant.system (started plant.system (at_entry plant.image plant.system call.registers) (option_map contexts.Task call.reply.activated)
     (gone_standings plant call before)) c ≡ Some standing
-serve_stands plant states subject mode call earlier before after later c standing stands =
+serve_stands plant states task mode call earlier before after later c standing stands =
     let step : Serves plant.image plant.system call before after = later.step in
     ap (λ (r : Reply). position_of plant.system (answered plant.system (at_entry plant.image plant.system call.registers) call.caller
     (Some (gone_on (served_by plant.system call before).reply.code call.before)) r before.standings) c) step.replied
     ∙ (ap (λ (s : MachineState). standing_of plant.system s c) (sym step.becomes) ∙ stands)
 
-pub activated_there : (plant : PlantData) (states : List AbsState) (subject : Context) (mode : ℕ) (call : ServiceCall) (earlier : List Event)
-    (before after : MachineState) → IsLater plant states subject mode (Serve call) earlier before after
+pub activated_there : (plant : PlantData) (states : List AbsState) (task mode : ℕ) (call : ServiceCall) (earlier : List Event)
+    (before after : MachineState) → IsLater plant states task mode (Serve call) earlier before after
     → (d : Context) → option_map contexts.Task call.reply.activated ≡ Some d → IsContext plant.system d
-activated_there plant states subject mode call earlier before after later d e =
-    (contexts_exist plant states subject mode (Serve call) earlier before after later).1 d e
+activated_there plant states task mode call earlier before after later d e =
+    (contexts_exist plant states task mode (Serve call) earlier before after later).1 d e
 
-serve_laps : (plant : PlantData) (states : List AbsState) (subject : Context) (mode : ℕ) (l : Loop) (call : ServiceCall) (earlier : List Event) (before after : MachineState)
-    → IsLater plant states subject mode (Serve call) earlier before after → HasLaps plant l earlier before
+serve_laps : (plant : PlantData) (states : List AbsState) (task mode : ℕ) (l : Loop) (call : ServiceCall) (earlier : List Event) (before after : MachineState)
+    → IsLater plant states task mode (Serve call) earlier before after → HasLaps plant l earlier before
     → (c : Context) (standing : Standing) → IsContext plant.system c → standing_of plant.system after c ≡ Some standing
     → (starts : Bool) → is_this c (started_by (Serve call)) ≡ starts
     → length (laps_of plant.image l c (Serve call ∷ earlier)) ≡ length standing.calls + 1
-serve_laps plant states subject mode l call earlier before after later had c standing exists stands true is =
-    let all = covers_of plant states subject mode earlier before later.case in
+serve_laps plant states task mode l call earlier before after later had c standing exists stands true is =
+    let all = covers_of plant states task mode earlier before later.case in
     entry_laps plant l c (Serve call) earlier call.registers standing is
     (sym (started_here plant.system (at_entry plant.image plant.system call.registers) (option_map contexts.Task call.reply.activated) c
     (gone_standings plant call before) exists (placed_count plant.system call.caller _ before.standings ∙ all.room.positions.count) is)
-    ∙ serve_stands plant states subject mode call earlier before after later c standing stands)
-serve_laps plant states subject mode l call earlier before after later had c standing exists stands false is =
+    ∙ serve_stands plant states task mode call earlier before after later c standing stands)
+serve_laps plant states task mode l call earlier before after later had c standing exists stands false is =
     ap length (laps_old plant l c (Serve call) earlier is)
-    ∙ serve_other plant states subject mode l call earlier before after later had c standing exists
+    ∙ serve_other plant states task mode l call earlier before after later had c standing exists
     (sym (started_other plant.system (at_entry plant.image plant.system call.registers) (option_map contexts.Task call.reply.activated) c
-    (gone_standings plant call before) exists (activated_there plant states subject mode call earlier before after later) is)
-    ∙ serve_stands plant states subject mode call earlier before after later c standing stands) (same_context c call.caller) refl
+    (gone_standings plant call before) exists (activated_there plant states task mode call earlier before after later) is)
+    ∙ serve_stands plant states task mode call earlier before after later c standing stands) (same_context c call.caller) refl
 
-pub has_laps : (plant : PlantData) (states : List AbsState) (subject : Context) (mode : ℕ) (l : Loop) (events : List Event) (state : MachineState)
-    → IsDeclaredCase plant states subject mode events state → HasLaps plant l events state
-has_laps plant states subject mode l [] state case = λ c standing exists stands.
+pub has_laps : (plant : PlantData) (states : List AbsState) (task mode : ℕ) (l : Loop) (events : List Event) (state : MachineState)
+    → IsDeclaredCase plant states task mode events state → HasLaps plant l events state
+has_laps plant states task mode l [] state case = λ c standing exists stands.
     let calls = ap length (case.of.run.entries c standing exists stands).calls in omega arith
-has_laps plant states subject mode l (Arrive arrival ∷ earlier) state case = λ c standing exists stands.
-    let later = later_of plant states subject mode (Arrive arrival) earlier state case in
-    has_laps plant states subject mode l earlier later.0 later.1.case c standing exists
+has_laps plant states task mode l (Arrive arrival ∷ earlier) state case = λ c standing exists stands.
+    let later = later_of plant states task mode (Arrive arrival) earlier state case in
+    has_laps plant states task mode l earlier later.0 later.1.case c standing exists
     (ap (λ (s : MachineState). standing_of plant.system s c) (sym later.1.step.becomes) ∙ stands)
-has_laps plant states subject mode l (Take taking ∷ earlier) state case = λ c standing exists stands.
-    let later = later_of plant states subject mode (Take taking) earlier state case in
-    take_laps plant states subject mode l taking earlier later.0 state later.1 (has_laps plant states subject mode l earlier later.0 later.1.case)
-    c standing exists (take_stands plant states subject mode taking earlier later.0 state later.1 c standing stands) (is_this c taking.started) refl
-has_laps plant states subject mode l (Execute execution ∷ earlier) state case = λ c standing exists stands.
-    let later = later_of plant states subject mode (Execute execution) earlier state case in
-    execute_laps plant states subject mode l execution earlier later.0 state later.1 (has_laps plant states subject mode l earlier later.0 later.1.case)
+has_laps plant states task mode l (Take taking ∷ earlier) state case = λ c standing exists stands.
+    let later = later_of plant states task mode (Take taking) earlier state case in
+    take_laps plant states task mode l taking earlier later.0 state later.1 (has_laps plant states task mode l earlier later.0 later.1.case)
+    c standing exists (take_stands plant states task mode taking earlier later.0 state later.1 c standing stands) (is_this c taking.started) refl
+has_laps plant states task mode l (Execute execution ∷ earlier) state case = λ c standing exists stands.
+    let later = later_of plant states task mode (Execute execution) earlier state case in
+    execute_laps plant states task mode l execution earlier later.0 state later.1 (has_laps plant states task mode l earlier later.0 later.1.case)
     c standing exists stands (same_context c execution.context) refl
-has_laps plant states subject mode l (Serve call ∷ earlier) state case = λ c standing exists stands.
-    let later = later_of plant states subject mode (Serve call) earlier state case in
-    serve_laps plant states subject mode l call earlier later.0 state later.1 (has_laps plant states subject mode l earlier later.0 later.1.case)
+has_laps plant states task mode l (Serve call ∷ earlier) state case = λ c standing exists stands.
+    let later = later_of plant states task mode (Serve call) earlier state case in
+    serve_laps plant states task mode l call earlier later.0 state later.1 (has_laps plant states task mode l earlier later.0 later.1.case)
     c standing exists stands (is_this c (started_by (Serve call))) refl
-has_laps plant states subject mode l (Idle cycles ∷ earlier) state case = λ c standing exists stands.
-    let later = later_of plant states subject mode (Idle cycles) earlier state case in
-    has_laps plant states subject mode l earlier later.0 later.1.case c standing exists
+has_laps plant states task mode l (Idle cycles ∷ earlier) state case = λ c standing exists stands.
+    let later = later_of plant states task mode (Idle cycles) earlier state case in
+    has_laps plant states task mode l earlier later.0 later.1.case c standing exists
     (ap (λ (s : MachineState). standing_of plant.system s c) (sym later.1.step.becomes) ∙ stands)

@@ -4,6 +4,7 @@ use Rattle.std.specs.Prelude.{IsSome, is_some, sum_by, map, option_map, option_t
 use Rattle.std.proofs.lemmas.List.Sums.{sum_by-append}
 use Rattle.std.proofs.lemmas.Option.{none-some, same_Some}
 use Rattle.osek_kernel.specs.declared.context.Context.{Context}
+use Rattle.osek_kernel.specs.declared.context.Context.TheVariants as contexts
 use Rattle.osek_kernel.specs.Positions.{position_of}
 use Rattle.osek_kernel.specs.Running.{runs}
 use Rattle.osek_kernel.specs.Services.{service_of}
@@ -28,23 +29,23 @@ use Rattle.activation_windows.proofs.Windows.{is_whole}
 
 -- ---- Each step
 
-pub asks_in : (plant : PlantData) (states : List AbsState) (subject : Context) (mode : ℕ) (call : _) (earlier : List Event) (before after : MachineState)
-    → IsLater plant states subject mode (Serve call) earlier before after → AsksAt plant call
-asks_in plant states subject mode call earlier before after later =
-    let covers = covers_of plant states subject mode earlier before later.case in
+pub asks_in : (plant : PlantData) (states : List AbsState) (task mode : ℕ) (call : _) (earlier : List Event) (before after : MachineState)
+    → IsLater plant states task mode (Serve call) earlier before after → AsksAt plant call
+asks_in plant states task mode call earlier before after later =
+    let covers = covers_of plant states task mode earlier before later.case in
     asks_at plant later.case.of.belongs call before after covers.room later.step covers.walking
 
-asked_is : (plant : PlantData) (states : List AbsState) (subject : Context) (mode : ℕ) (call : _) (earlier : List Event) (before after : MachineState)
-    → IsLater plant states subject mode (Serve call) earlier before after → (asks : AsksAt plant call) → service_of asks.serves.service.number ≡ Some call.service
-asked_is plant states subject mode call earlier before after later asks =
+asked_is : (plant : PlantData) (states : List AbsState) (task mode : ℕ) (call : _) (earlier : List Event) (before after : MachineState)
+    → IsLater plant states task mode (Serve call) earlier before after → (asks : AsksAt plant call) → service_of asks.serves.service.number ≡ Some call.service
+asked_is plant states task mode call earlier before after later asks =
     let step : Serves plant.image plant.system call before after = later.step in
     ap service_of (sym asks.serves.number_is) ∙ step.service
 
 -- the edge of an instruction step
-pub edge_in : (plant : PlantData) (states : List AbsState) (subject : Context) (mode : ℕ) (execution : _) (earlier : List Event) (before after : MachineState)
-    → IsLater plant states subject mode (Execute execution) earlier before after → TakesEdge plant execution
-edge_in plant states subject mode execution earlier before after later =
-    let covers = covers_of plant states subject mode earlier before later.case in
+pub edge_in : (plant : PlantData) (states : List AbsState) (task mode : ℕ) (execution : _) (earlier : List Event) (before after : MachineState)
+    → IsLater plant states task mode (Execute execution) earlier before after → TakesEdge plant execution
+edge_in plant states task mode execution earlier before after later =
+    let covers = covers_of plant states task mode earlier before later.case in
     takes_edge plant later.case.of.belongs execution before after covers.room later.step later.pairs covers.walking
 
 -- a column that is a move costs what the move does
@@ -54,52 +55,52 @@ moved_costs plant cycles column found label same within =
     subst (λ (l : Option MoveLabel). cycles ≤ sum_by (cost plant) (option_to_list (option_map column l))) (sym same) (omega arith)
 
 -- somebody runs in a window
-nobody_idles : (plant : PlantData) (states : List AbsState) (subject : Context) (mode : ℕ) (events : List Event) (state : MachineState) (window : Window)
-    → IsDeclaredCase plant states subject mode events state → open_window plant subject mode events ≡ Some window → runs plant.system state.kernel ≡ None → ⊥
-nobody_idles plant states subject mode events state window case is_open nobody =
-    let somebody : IsSome (runs plant.system state.kernel) = (the_first_runs plant.system state.kernel).somebody subject
-    (is_whole plant states subject mode events state window case is_open).active in
+nobody_idles : (plant : PlantData) (states : List AbsState) (task mode : ℕ) (events : List Event) (state : MachineState) (window : Window)
+    → IsDeclaredCase plant states task mode events state → open_window plant task mode events ≡ Some window → runs plant.system state.kernel ≡ None → ⊥
+nobody_idles plant states task mode events state window case is_open nobody =
+    let somebody : IsSome (runs plant.system state.kernel) = (the_first_runs plant.system state.kernel).somebody (contexts.Task task)
+    (is_whole plant states task mode events state window case is_open).active in
     let wrong : true ≡ false = sym somebody ∙ ap is_some nobody in cc
 
 -- no step of a window takes longer than what it uses
-step_covers : (plant : PlantData) (states : List AbsState) (subject : Context) (mode : ℕ) (event : Event) (earlier : List Event) (before after : MachineState)
+step_covers : (plant : PlantData) (states : List AbsState) (task mode : ℕ) (event : Event) (earlier : List Event) (before after : MachineState)
     (window : Window)
-    → IsLater plant states subject mode event earlier before after → open_window plant subject mode earlier ≡ Some window
+    → IsLater plant states task mode event earlier before after → open_window plant task mode earlier ≡ Some window
     → cycles_of event ≤ sum_by (cost plant) (option_to_list (used_by plant mode event earlier))
-step_covers plant states subject mode (Arrive arrival) earlier before after window later is_open = omega arith
-step_covers plant states subject mode (Take taking) earlier before after window later is_open =
+step_covers plant states task mode (Arrive arrival) earlier before after window later is_open = omega arith
+step_covers plant states task mode (Take taking) earlier before after window later is_open =
     moved_costs plant taking.cycles (λ label. Moves (going_by plant mode label (Take taking) earlier)) (Some (labels.Take taking.source))
     (labels.Take taking.source)
     refl (take_covers plant taking later.declared.costs.0)
-step_covers plant states subject mode (Execute execution) earlier before after window later is_open =
-    execute_covers plant mode execution earlier (edge_in plant states subject mode execution earlier before after later) later.declared.costs.0
-step_covers plant states subject mode (Serve call) earlier before after window later is_open =
-    let asks = asks_in plant states subject mode call earlier before after later in
+step_covers plant states task mode (Execute execution) earlier before after window later is_open =
+    execute_covers plant mode execution earlier (edge_in plant states task mode execution earlier before after later) later.declared.costs.0
+step_covers plant states task mode (Serve call) earlier before after window later is_open =
+    let asks = asks_in plant states task mode call earlier before after later in
     let costs = serve_covers plant later.case.of.belongs call asks
-    (asked_is plant states subject mode call earlier before after later asks) later.declared.costs.0 in
+    (asked_is plant states task mode call earlier before after later asks) later.declared.costs.0 in
     moved_costs plant call.cycles (λ label. Moves (going_by plant mode label (Serve call) earlier)) (call_label plant call) (labels.Service asks.at.number)
     costs.0 costs.1
-step_covers plant states subject mode (Idle cycles) earlier before after window later is_open =
-    absurd (nobody_idles plant states subject mode earlier before window later.case is_open later.step.nobody)
+step_covers plant states task mode (Idle cycles) earlier before after window later is_open =
+    absurd (nobody_idles plant states task mode earlier before window later.case is_open later.step.nobody)
 
 -- nor does the step that opens it
-start_covers : (plant : PlantData) (states : List AbsState) (subject : Context) (mode : ℕ) (event : Event) (earlier : List Event) (before after : MachineState)
+start_covers : (plant : PlantData) (states : List AbsState) (task mode : ℕ) (event : Event) (earlier : List Event) (before after : MachineState)
     (context : Context)
-    → IsLater plant states subject mode event earlier before after → started_by event ≡ Some context
+    → IsLater plant states task mode event earlier before after → started_by event ≡ Some context
     → cycles_of event ≤ sum_by (cost plant) (option_to_list (start_by plant mode event earlier))
-start_covers plant states subject mode (Arrive arrival) earlier before after context later starts = omega arith
-start_covers plant states subject mode (Take taking) earlier before after context later starts =
+start_covers plant states task mode (Arrive arrival) earlier before after context later starts = omega arith
+start_covers plant states task mode (Take taking) earlier before after context later starts =
     moved_costs plant taking.cycles (λ label. Starts (By (going_by plant mode label (Take taking) earlier))) (Some (labels.Take taking.source))
     (labels.Take taking.source) refl (take_covers plant taking later.declared.costs.0)
-start_covers plant states subject mode (Execute execution) earlier before after context later starts = absurd (none-some context starts)
-start_covers plant states subject mode (Serve call) earlier before after context later starts =
-    let asks = asks_in plant states subject mode call earlier before after later in
+start_covers plant states task mode (Execute execution) earlier before after context later starts = absurd (none-some context starts)
+start_covers plant states task mode (Serve call) earlier before after context later starts =
+    let asks = asks_in plant states task mode call earlier before after later in
     let costs = serve_covers plant later.case.of.belongs call asks
-    (asked_is plant states subject mode call earlier before after later asks) later.declared.costs.0 in
+    (asked_is plant states task mode call earlier before after later asks) later.declared.costs.0 in
     moved_costs plant call.cycles (λ label. Starts (By (going_by plant mode label (Serve call) earlier))) (call_label plant call)
     (labels.Service asks.at.number)
     costs.0 costs.1
-start_covers plant states subject mode (Idle cycles) earlier before after context later starts = absurd (none-some context starts)
+start_covers plant states task mode (Idle cycles) earlier before after context later starts = absurd (none-some context starts)
 
 -- ---- Windows
 
@@ -117,36 +118,36 @@ opened_costs plant mode start events =
     (record { uses = option_to_list start; waiting = map (λ node. option_map Stands node) (nodes_after plant mode events) })
 
 -- since when the task is active, where a step starts it, or neither starts nor ends it
-pub since_start : (plant : PlantData) (subject : Context) (mode : ℕ) (event : Event) (earlier : List Event) (since : ℕ) → started_by event ≡ Some subject
-    → active_since plant.system mode subject (event ∷ earlier) ≡ Some since → duration earlier ≡ since
-since_start plant subject mode event earlier since starts e =
+pub since_start : (plant : PlantData) (task mode : ℕ) (event : Event) (earlier : List Event) (since : ℕ) → started_by event ≡ Some (contexts.Task task)
+    → active_since plant.system mode task (event ∷ earlier) ≡ Some since → duration earlier ≡ since
+since_start plant task mode event earlier since starts e =
     same_Some (duration earlier) since
-    (ap (λ b. cond b (Some (duration earlier)) (cond (is_this subject (ended_by event)) None (active_since plant.system mode subject earlier)))
-    (sym (is_this_one subject (started_by event) starts)) ∙ e)
+    (ap (λ b. cond b (Some (duration earlier)) (cond (is_this (contexts.Task task) (ended_by event)) None (active_since plant.system mode task earlier)))
+    (sym (is_this_one (contexts.Task task) (started_by event) starts)) ∙ e)
 
-pub since_before : (plant : PlantData) (subject : Context) (mode : ℕ) (event : Event) (earlier : List Event) (since : ℕ)
-    → is_this subject (started_by event) ≡ false → is_this subject (ended_by event) ≡ false
-    → active_since plant.system mode subject (event ∷ earlier) ≡ Some since → active_since plant.system mode subject earlier ≡ Some since
-since_before plant subject mode event earlier since goes_on stays e =
-    sym (ap (λ b. cond b (Some (duration earlier)) (cond (is_this subject (ended_by event)) None
-    (active_since plant.system mode subject earlier))) goes_on
-    ∙ ap (λ b. cond b None (active_since plant.system mode subject earlier)) stays) ∙ e
+pub since_before : (plant : PlantData) (task mode : ℕ) (event : Event) (earlier : List Event) (since : ℕ)
+    → is_this (contexts.Task task) (started_by event) ≡ false → is_this (contexts.Task task) (ended_by event) ≡ false
+    → active_since plant.system mode task (event ∷ earlier) ≡ Some since → active_since plant.system mode task earlier ≡ Some since
+since_before plant task mode event earlier since goes_on stays e =
+    sym (ap (λ b. cond b (Some (duration earlier)) (cond (is_this (contexts.Task task) (ended_by event)) None
+    (active_since plant.system mode task earlier))) goes_on
+    ∙ ap (λ b. cond b None (active_since plant.system mode task earlier)) stays) ∙ e
 
-abbrev pub Lasts : PlantData → Context → ℕ → List Event → MachineState → Window → Type 0
-Lasts plant subject mode events state window =
-    (since : ℕ) → active_since plant.system mode subject events ≡ Some since → duration events ≤ since + sum_by (cost plant) window.uses
+abbrev pub Lasts : PlantData → ℕ → ℕ → List Event → MachineState → Window → Type 0
+Lasts plant task mode events state window =
+    (since : ℕ) → active_since plant.system mode task events ≡ Some since → duration events ≤ since + sum_by (cost plant) window.uses
 
-pub lasts : (plant : PlantData) (states : List AbsState) (subject : Context) (mode : ℕ) → Inducts plant states subject mode (Lasts plant subject mode)
-lasts plant states subject mode = record {
+pub lasts : (plant : PlantData) (states : List AbsState) (task mode : ℕ) → Inducts plant states task mode (Lasts plant task mode)
+lasts plant states task mode = record {
   starts = λ state case active since e. omega arith;
   begins = λ event earlier before after later starts since e.
-      let begun = since_start plant subject mode event earlier since starts e in
-      let covers = start_covers plant states subject mode event earlier before after subject later starts in
+      let begun = since_start plant task mode event earlier since starts e in
+      let covers = start_covers plant states task mode event earlier before after (contexts.Task task) later starts in
       let more = opened_costs plant mode (start_by plant mode event earlier) (event ∷ earlier) in
       omega arith;
   goes_on = λ event earlier before after window later goes_on stays is_open held since e.
-      let before_it = held since (since_before plant subject mode event earlier since goes_on stays e) in
-      let covers = step_covers plant states subject mode event earlier before after window later is_open in
+      let before_it = held since (since_before plant task mode event earlier since goes_on stays e) in
+      let covers = step_covers plant states task mode event earlier before after window later is_open in
       let all = sum_by-append (cost plant) (option_to_list (used_by plant mode event earlier)) window.uses in
       let more = run_in_costs plant (running_after plant mode (event ∷ earlier))
       (record { uses = option_to_list (used_by plant mode event earlier) ++ window.uses; waiting = waiting_after plant event window.waiting }) in
@@ -154,15 +155,15 @@ lasts plant states subject mode = record {
 }
 
 pub uses_cover_time : UsesCoverTime
-uses_cover_time plant states subject mode =
-    of_used plant states subject mode (λ events state uses since. duration events - since ≤ sum_by (cost plant) uses) (record {
+uses_cover_time plant states task mode =
+    of_used plant states task mode (λ events state uses since. duration events - since ≤ sum_by (cost plant) uses) (record {
       while_it_is_open = λ events state window since case is_open active.
-          let within = of_open plant states subject mode (Lasts plant subject mode) (lasts plant states subject mode) events state window case is_open since active in
+          let within = of_open plant states task mode (Lasts plant task mode) (lasts plant states task mode) events state window case is_open since active in
           omega arith;
       closes = λ event earlier before after window since later ends is_open active.
-          let within = of_open plant states subject mode (Lasts plant subject mode)
-          (lasts plant states subject mode) earlier before window later.case is_open since active in
-          let covers = step_covers plant states subject mode event earlier before after window later is_open in
+          let within = of_open plant states task mode (Lasts plant task mode)
+          (lasts plant states task mode) earlier before window later.case is_open since active in
+          let covers = step_covers plant states task mode event earlier before after window later is_open in
           let all = sum_by-append (cost plant) (option_to_list (used_by plant mode event earlier)) window.uses in
           omega arith;
     })

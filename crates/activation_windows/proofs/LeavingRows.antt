@@ -4,6 +4,7 @@ use Rattle.std.specs.Prelude.{◌&&◌, not, option_map, option_to_list, filter,
 use Rattle.std.proofs.lemmas.List.Elements.{All-nil, All-cons}
 use Rattle.std.proofs.lemmas.List.Sums.{sum_by-cons}
 use Rattle.osek_kernel.specs.declared.context.Context.{Context}
+use Rattle.osek_kernel.specs.declared.context.Context.TheVariants as contexts
 use Rattle.osek_kernel.specs.Contexts.{IsContext}
 use Rattle.osek_kernel.specs.Positions.{position_of}
 use Rattle.osek_machine.specs.State.{MachineState}
@@ -39,10 +40,10 @@ spared : (count : Column → ℕ) → SparesVisits count → (waits : Option Col
 spared count spares None visits = refl
 spared count spares (Some column) visits = spares column (visits column refl)
 
-pub run_in_same : (plant : PlantData) (states : List AbsState) (subject : Context) (mode : ℕ) (events : List Event) (state : MachineState) (window : Window)
-    (context : Context) (count : Column → ℕ) → SparesVisits count → IsContext plant.system context → AreListed plant states subject mode events state window
+pub run_in_same : (plant : PlantData) (states : List AbsState) (task mode : ℕ) (events : List Event) (state : MachineState) (window : Window)
+    (context : Context) (count : Column → ℕ) → SparesVisits count → IsContext plant.system context → AreListed plant states task mode events state window
     → sum_by count (run_in plant (Some context) window).uses ≡ sum_by count window.uses
-run_in_same plant states subject mode events state window context count spares exists are =
+run_in_same plant states task mode events state window context count spares exists are =
     sum_with count (position_of plant.system window.waiting context) window.uses
     ∙ ap (λ n. n + sum_by count window.uses)
     (spared count spares (position_of plant.system window.waiting context) (λ column e. (are.waiting context exists column e).visits))
@@ -93,12 +94,12 @@ starts_with plant mode event earlier uses =
     sum_with (starts_count (λ start. true)) (used_by plant mode event earlier) uses
     ∙ (ap (λ n. n + sum_by (starts_count (λ start. true)) uses) (no_start plant mode event earlier) ∙ omega arith)
 
-starts_once : (plant : PlantData) (states : List AbsState) (subject : Context) (mode : ℕ) → InductsByParts plant states subject mode StartsOnce
-starts_once plant states subject mode = record {
+starts_once : (plant : PlantData) (states : List AbsState) (task mode : ℕ) → InductsByParts plant states task mode StartsOnce
+starts_once plant states task mode = record {
   opens = λ events state column case start. (let sum : sum_by (starts_count (λ start. true)) (option_to_list column) ≡ 1 =
       start_sum (starts_count (λ start. true)) column start.start start.is in omega arith);
   steps = λ event earlier before after window later new on was are held. (let same = starts_with plant mode event earlier window.uses in omega arith);
-  ran = λ events state window context case exists e count are held. (let same = run_in_same plant states subject mode events state window context
+  ran = λ events state window context case exists e count are held. (let same = run_in_same plant states task mode events state window context
       (starts_count (λ start. true)) no_start_visit exists are in omega arith);
 }
 
@@ -117,35 +118,35 @@ first_met : (uses : List Column) → sum_by (starts_count (λ start. true)) uses
 first_met uses most = All-cons (Meets uses) one_start []
     (meets_by all_starts (starts_count (λ start. true)) (λ column. 0) 1 uses one_of (let none = sum_none uses in omega arith)) (All-nil (Meets uses))
 
-first_uses : (plant : PlantData) (states : List AbsState) (subject : Context) (mode : ℕ)
-    → OfUses plant states subject mode (λ events state uses since. sum_by (starts_count (λ start. true)) uses ≤ 1)
-first_uses plant states subject mode = record {
+first_uses : (plant : PlantData) (states : List AbsState) (task mode : ℕ)
+    → OfUses plant states task mode (λ events state uses since. sum_by (starts_count (λ start. true)) uses ≤ 1)
+first_uses plant states task mode = record {
   while_it_is_open = λ events state window since case is_open active.
-      of_open plant states subject mode StartsOnce (by_parts plant states subject mode StartsOnce (starts_once plant states subject mode))
+      of_open plant states task mode StartsOnce (by_parts plant states task mode StartsOnce (starts_once plant states task mode))
       events state window case is_open;
   closes = λ event earlier before after window since later ends is_open active.
-      (let once : sum_by (starts_count (λ start. true)) window.uses ≤ 1 = of_open plant states subject mode StartsOnce
-      (by_parts plant states subject mode StartsOnce (starts_once plant states subject mode)) earlier before window later.case is_open in
+      (let once : sum_by (starts_count (λ start. true)) window.uses ≤ 1 = of_open plant states task mode StartsOnce
+      (by_parts plant states task mode StartsOnce (starts_once plant states task mode)) earlier before window later.case is_open in
       let same = starts_with plant mode event earlier window.uses in omega arith);
 }
 
 pub meets_first : MeetsFirst
-meets_first plant states subject mode events state uses since case used =
-    first_met uses (of_used plant states subject mode (λ events state uses since. sum_by (starts_count (λ start. true)) uses ≤ 1)
-    (first_uses plant states subject mode) events state uses since case used)
+meets_first plant states task mode events state uses since case used =
+    first_met uses (of_used plant states task mode (λ events state uses since. sum_by (starts_count (λ start. true)) uses ≤ 1)
+    (first_uses plant states task mode) events state uses since case used)
 
 -- ---- States that are left
 
 abbrev left_count : AbsState → Column → ℕ
 left_count from column = moves_count (λ going. same_state from going.from) column
 
-abbrev come_count : PlantData → Context → AbsState → Column → ℕ
-come_count plant subject from column = into_count plant subject (same_state from) column
+abbrev come_count : PlantData → ℕ → AbsState → Column → ℕ
+come_count plant task from column = into_count plant task (same_state from) column
 
 -- left at most as often as come into, where it isn't the state now, and less often where it is
-abbrev LeavesLess : PlantData → Context → ℕ → AbsState → List Event → MachineState → Window → Type 0
-LeavesLess plant subject mode from events state window =
-    sum_by (left_count from) window.uses + one (same_state from (shadow_after plant mode events)) ≤ sum_by (come_count plant subject from) window.uses
+abbrev LeavesLess : PlantData → ℕ → ℕ → AbsState → List Event → MachineState → Window → Type 0
+LeavesLess plant task mode from events state window =
+    sum_by (left_count from) window.uses + one (same_state from (shadow_after plant mode events)) ≤ sum_by (come_count plant task from) window.uses
 
 left_no_visit : (from : AbsState) → SparesVisits (left_count from)
 left_no_visit from (Starts start) is = absurd cc
@@ -154,28 +155,28 @@ left_no_visit from (Goes along) is = refl
 left_no_visit from (Begins block) is = refl
 left_no_visit from (Stands node) is = refl
 
-come_no_visit : (plant : PlantData) (subject : Context) (from : AbsState) → SparesVisits (come_count plant subject from)
-come_no_visit plant subject from (Starts start) is = absurd cc
-come_no_visit plant subject from (Moves going) is = absurd cc
-come_no_visit plant subject from (Goes along) is = refl
-come_no_visit plant subject from (Begins block) is = refl
-come_no_visit plant subject from (Stands node) is = refl
+come_no_visit : (plant : PlantData) (task : ℕ) (from : AbsState) → SparesVisits (come_count plant task from)
+come_no_visit plant task from (Starts start) is = absurd cc
+come_no_visit plant task from (Moves going) is = absurd cc
+come_no_visit plant task from (Goes along) is = refl
+come_no_visit plant task from (Begins block) is = refl
+come_no_visit plant task from (Stands node) is = refl
 
 left_no_edge : (from : AbsState) (along : Option Along) → sum_option (left_count from) (option_map Goes along) ≡ 0
 left_no_edge from None = refl
 left_no_edge from (Some along) = refl
 
-come_no_edge : (plant : PlantData) (subject : Context) (from : AbsState) (along : Option Along) → sum_option (come_count plant subject from) (option_map Goes along) ≡ 0
-come_no_edge plant subject from None = refl
-come_no_edge plant subject from (Some along) = refl
+come_no_edge : (plant : PlantData) (task : ℕ) (from : AbsState) (along : Option Along) → sum_option (come_count plant task from) (option_map Goes along) ≡ 0
+come_no_edge plant task from None = refl
+come_no_edge plant task from (Some along) = refl
 
-opened_leaves : (plant : PlantData) (states : List AbsState) (subject : Context) (mode : ℕ) (from : AbsState) (events : List Event) (state : MachineState)
-    (column : Option Column) → IsStart plant states subject mode events column
-    → LeavesLess plant subject mode from events state (opened_first plant mode column events)
-opened_leaves plant states subject mode from events state column start =
+opened_leaves : (plant : PlantData) (states : List AbsState) (task mode : ℕ) (from : AbsState) (events : List Event) (state : MachineState)
+    (column : Option Column) → IsStart plant states task mode events column
+    → LeavesLess plant task mode from events state (opened_first plant mode column events)
+opened_leaves plant states task mode from events state column start =
     let left : sum_by (left_count from) (option_to_list column) ≡ 0 = start_sum (left_count from) column start.start start.is in
-    let come : sum_by (come_count plant subject from) (option_to_list column) ≡ one (same_state from (state_after plant start.start)) + 0 =
-    start_sum (come_count plant subject from) column start.start start.is in
+    let come : sum_by (come_count plant task from) (option_to_list column) ≡ one (same_state from (state_after plant start.start)) + 0 =
+    start_sum (come_count plant task from) column start.start start.is in
     let same : one (same_state from (state_after plant start.start)) ≡ one (same_state from (shadow_after plant mode events)) =
     ap (λ (s : AbsState). one (same_state from s)) start.leads in
     omega arith
@@ -190,77 +191,77 @@ stays_in : (test ends : Bool) → ends ≡ false → 0 + one (test && not ends) 
 stays_in true ends e = ap (λ b. 0 + one (not b)) e
 stays_in false ends e = refl
 
-moved_leaves : (plant : PlantData) (states : List AbsState) (subject : Context) (mode : ℕ) (from : AbsState) (label : MoveLabel) (event : Event) (earlier : List Event)
-    (before after : MachineState) (window : Window) → IsLater plant states subject mode event earlier before after
+moved_leaves : (plant : PlantData) (states : List AbsState) (task mode : ℕ) (from : AbsState) (label : MoveLabel) (event : Event) (earlier : List Event)
+    (before after : MachineState) (window : Window) → IsLater plant states task mode event earlier before after
     → label_of plant event ≡ Some label → used_by plant mode event earlier ≡ Some (Moves (going_by plant mode label event earlier))
-    → is_this subject (ended_by event) ≡ false
-    → LeavesLess plant subject mode from earlier before window → LeavesLess plant subject mode from (event ∷ earlier) after (stepped plant mode event earlier window)
-moved_leaves plant states subject mode from label event earlier before after window later labelled used on held =
+    → is_this (contexts.Task task) (ended_by event) ≡ false
+    → LeavesLess plant task mode from earlier before window → LeavesLess plant task mode from (event ∷ earlier) after (stepped plant mode event earlier window)
+moved_leaves plant states task mode from label event earlier before after window later labelled used on held =
     let going = going_by plant mode label event earlier in
-    left_by (sum_by (left_count from) window.uses) (sum_by (come_count plant subject from) window.uses)
-    (sum_option (left_count from) (used_by plant mode event earlier)) (sum_option (come_count plant subject from) (used_by plant mode event earlier))
+    left_by (sum_by (left_count from) window.uses) (sum_by (come_count plant task from) window.uses)
+    (sum_option (left_count from) (used_by plant mode event earlier)) (sum_option (come_count plant task from) (used_by plant mode event earlier))
     (one (same_state from (shadow_after plant mode earlier))) (one (same_state from (shadow_after plant mode (event ∷ earlier))))
     (sum_by (left_count from) (option_to_list (used_by plant mode event earlier) ++ window.uses))
-    (sum_by (come_count plant subject from) (option_to_list (used_by plant mode event earlier) ++ window.uses))
+    (sum_by (come_count plant task from) (option_to_list (used_by plant mode event earlier) ++ window.uses))
     (sum_with (left_count from) (used_by plant mode event earlier) window.uses)
-    (sum_with (come_count plant subject from) (used_by plant mode event earlier) window.uses)
+    (sum_with (come_count plant task from) (used_by plant mode event earlier) window.uses)
     (ap (sum_option (left_count from)) used)
-    (ap (sum_option (come_count plant subject from)) used
-    ∙ stays_in (same_state from (shadow_after plant mode (event ∷ earlier))) (ends_in plant subject going)
-    (ends_only plant states subject mode subject label event earlier before after later labelled on)) held
+    (ap (sum_option (come_count plant task from)) used
+    ∙ stays_in (same_state from (shadow_after plant mode (event ∷ earlier))) (ends_in plant (contexts.Task task) going)
+    (ends_only plant states task mode (contexts.Task task) label event earlier before after later labelled on)) held
 
-stepped_leaves : (plant : PlantData) (states : List AbsState) (subject : Context) (mode : ℕ) (from : AbsState) (event : Event) (earlier : List Event)
-    (before after : MachineState) (window : Window) → IsLater plant states subject mode event earlier before after
-    → is_this subject (ended_by event) ≡ false
-    → LeavesLess plant subject mode from earlier before window → LeavesLess plant subject mode from (event ∷ earlier) after (stepped plant mode event earlier window)
-stepped_leaves plant states subject mode from (Arrive arrival) earlier before after window later on held = held
-stepped_leaves plant states subject mode from (Take taking) earlier before after window later on held =
-    moved_leaves plant states subject mode from (labels.Take taking.source) (Take taking) earlier before after window later refl refl on held
-stepped_leaves plant states subject mode from (Execute execution) earlier before after window later on held =
+stepped_leaves : (plant : PlantData) (states : List AbsState) (task mode : ℕ) (from : AbsState) (event : Event) (earlier : List Event)
+    (before after : MachineState) (window : Window) → IsLater plant states task mode event earlier before after
+    → is_this (contexts.Task task) (ended_by event) ≡ false
+    → LeavesLess plant task mode from earlier before window → LeavesLess plant task mode from (event ∷ earlier) after (stepped plant mode event earlier window)
+stepped_leaves plant states task mode from (Arrive arrival) earlier before after window later on held = held
+stepped_leaves plant states task mode from (Take taking) earlier before after window later on held =
+    moved_leaves plant states task mode from (labels.Take taking.source) (Take taking) earlier before after window later refl refl on held
+stepped_leaves plant states task mode from (Execute execution) earlier before after window later on held =
     let left : sum_by (left_count from) (option_to_list (option_map Goes (along_of plant execution)) ++ window.uses) ≡ sum_by (left_count from) window.uses =
     sum_with (left_count from) (option_map Goes (along_of plant execution)) window.uses
     ∙ (ap (λ n. n + sum_by (left_count from) window.uses) (left_no_edge from (along_of plant execution)) ∙ omega arith) in
-    let come : sum_by (come_count plant subject from) (option_to_list (option_map Goes (along_of plant execution)) ++ window.uses)
-    ≡ sum_by (come_count plant subject from) window.uses =
-    sum_with (come_count plant subject from) (option_map Goes (along_of plant execution)) window.uses
-    ∙ (ap (λ n. n + sum_by (come_count plant subject from) window.uses) (come_no_edge plant subject from (along_of plant execution)) ∙ omega arith) in
-    kept_by (sum_by (left_count from) window.uses) (sum_by (come_count plant subject from) window.uses)
+    let come : sum_by (come_count plant task from) (option_to_list (option_map Goes (along_of plant execution)) ++ window.uses)
+    ≡ sum_by (come_count plant task from) window.uses =
+    sum_with (come_count plant task from) (option_map Goes (along_of plant execution)) window.uses
+    ∙ (ap (λ n. n + sum_by (come_count plant task from) window.uses) (come_no_edge plant task from (along_of plant execution)) ∙ omega arith) in
+    kept_by (sum_by (left_count from) window.uses) (sum_by (come_count plant task from) window.uses)
     (sum_by (left_count from) (option_to_list (option_map Goes (along_of plant execution)) ++ window.uses))
-    (sum_by (come_count plant subject from) (option_to_list (option_map Goes (along_of plant execution)) ++ window.uses))
+    (sum_by (come_count plant task from) (option_to_list (option_map Goes (along_of plant execution)) ++ window.uses))
     (one (same_state from (shadow_after plant mode earlier))) left come held
-stepped_leaves plant states subject mode from (Serve call) earlier before after window later on held =
-    let asks = asks_of plant states subject mode call earlier before after later in
+stepped_leaves plant states task mode from (Serve call) earlier before after window later on held =
+    let asks = asks_of plant states task mode call earlier before after later in
     let label : label_of plant (Serve call) ≡ Some (labels.Service asks.at.number) = ap (option_map labels.Service) asks.at.found in
-    moved_leaves plant states subject mode from (labels.Service asks.at.number) (Serve call) earlier before after window later label
+    moved_leaves plant states task mode from (labels.Service asks.at.number) (Serve call) earlier before after window later label
     (move_used plant mode (labels.Service asks.at.number) call earlier label) on held
-stepped_leaves plant states subject mode from (Idle cycles) earlier before after window later on held = held
+stepped_leaves plant states task mode from (Idle cycles) earlier before after window later on held = held
 
-ran_leaves : (plant : PlantData) (states : List AbsState) (subject : Context) (mode : ℕ) (from : AbsState) (events : List Event) (state : MachineState)
-    (window : Window) (context : Context) → IsContext plant.system context → AreListed plant states subject mode events state window
-    → LeavesLess plant subject mode from events state window → LeavesLess plant subject mode from events state (run_in plant (Some context) window)
-ran_leaves plant states subject mode from events state window context exists are held =
-    kept_by (sum_by (left_count from) window.uses) (sum_by (come_count plant subject from) window.uses)
-    (sum_by (left_count from) (run_in plant (Some context) window).uses) (sum_by (come_count plant subject from) (run_in plant (Some context) window).uses)
+ran_leaves : (plant : PlantData) (states : List AbsState) (task mode : ℕ) (from : AbsState) (events : List Event) (state : MachineState)
+    (window : Window) (context : Context) → IsContext plant.system context → AreListed plant states task mode events state window
+    → LeavesLess plant task mode from events state window → LeavesLess plant task mode from events state (run_in plant (Some context) window)
+ran_leaves plant states task mode from events state window context exists are held =
+    kept_by (sum_by (left_count from) window.uses) (sum_by (come_count plant task from) window.uses)
+    (sum_by (left_count from) (run_in plant (Some context) window).uses) (sum_by (come_count plant task from) (run_in plant (Some context) window).uses)
     (one (same_state from (shadow_after plant mode events)))
-    (run_in_same plant states subject mode events state window context (left_count from) (left_no_visit from) exists are)
-    (run_in_same plant states subject mode events state window context (come_count plant subject from) (come_no_visit plant subject from) exists are) held
+    (run_in_same plant states task mode events state window context (left_count from) (left_no_visit from) exists are)
+    (run_in_same plant states task mode events state window context (come_count plant task from) (come_no_visit plant task from) exists are) held
 
-leaves_less : (plant : PlantData) (states : List AbsState) (subject : Context) (mode : ℕ) (from : AbsState)
-    → InductsByParts plant states subject mode (LeavesLess plant subject mode from)
-leaves_less plant states subject mode from = record {
-  opens = λ events state column case start. opened_leaves plant states subject mode from events state column start;
+leaves_less : (plant : PlantData) (states : List AbsState) (task mode : ℕ) (from : AbsState)
+    → InductsByParts plant states task mode (LeavesLess plant task mode from)
+leaves_less plant states task mode from = record {
+  opens = λ events state column case start. opened_leaves plant states task mode from events state column start;
   steps = λ event earlier before after window later new on was are held.
-      stepped_leaves plant states subject mode from event earlier before after window later on held;
+      stepped_leaves plant states task mode from event earlier before after window later on held;
   ran = λ events state window context case exists e count are held.
-      ran_leaves plant states subject mode from events state window context exists are held;
+      ran_leaves plant states task mode from events state window context exists are held;
 }
 
-while_leaving : (plant : PlantData) (states : List AbsState) (subject : Context) (mode : ℕ) (from : AbsState) (events : List Event) (state : MachineState) (window : Window)
-    → IsDeclaredCase plant states subject mode events state → open_window plant subject mode events ≡ Some window
-    → LeavesLess plant subject mode from events state window
-while_leaving plant states subject mode from events state window case e =
-    of_open plant states subject mode (LeavesLess plant subject mode from)
-    (by_parts plant states subject mode (LeavesLess plant subject mode from) (leaves_less plant states subject mode from)) events state window case e
+while_leaving : (plant : PlantData) (states : List AbsState) (task mode : ℕ) (from : AbsState) (events : List Event) (state : MachineState) (window : Window)
+    → IsDeclaredCase plant states task mode events state → open_window plant task mode events ≡ Some window
+    → LeavesLess plant task mode from events state window
+while_leaving plant states task mode from events state window case e =
+    of_open plant states task mode (LeavesLess plant task mode from)
+    (by_parts plant states task mode (LeavesLess plant task mode from) (leaves_less plant states task mode from)) events state window case e
 
 -- what is left by the last step counts as left already
 last_left : (m l u v here more less : ℕ) → more ≡ u + m → less ≡ v + l → u ≤ here → m + here ≤ l → more ≤ less + 0
@@ -279,34 +280,34 @@ used_left plant mode from (Serve call) earlier = by (label_of plant (Serve call)
     by (Some label) = omega arith
 used_left plant mode from (Idle cycles) earlier = omega arith
 
-leaving_uses : (plant : PlantData) (states : List AbsState) (subject : Context) (mode : ℕ) (from : AbsState)
-    → OfUses plant states subject mode (λ events state uses since. sum_by (left_count from) uses ≤ sum_by (come_count plant subject from) uses + 0)
-leaving_uses plant states subject mode from = record {
+leaving_uses : (plant : PlantData) (states : List AbsState) (task mode : ℕ) (from : AbsState)
+    → OfUses plant states task mode (λ events state uses since. sum_by (left_count from) uses ≤ sum_by (come_count plant task from) uses + 0)
+leaving_uses plant states task mode from = record {
   while_it_is_open = λ events state window since case is_open active.
       (let held : sum_by (left_count from) window.uses + one (same_state from (shadow_after plant mode events))
-      ≤ sum_by (come_count plant subject from) window.uses =
-      while_leaving plant states subject mode from events state window case is_open in omega arith);
+      ≤ sum_by (come_count plant task from) window.uses =
+      while_leaving plant states task mode from events state window case is_open in omega arith);
   closes = λ event earlier before after window since later ends is_open active.
-      last_left (sum_by (left_count from) window.uses) (sum_by (come_count plant subject from) window.uses)
-      (sum_option (left_count from) (used_by plant mode event earlier)) (sum_option (come_count plant subject from) (used_by plant mode event earlier))
+      last_left (sum_by (left_count from) window.uses) (sum_by (come_count plant task from) window.uses)
+      (sum_option (left_count from) (used_by plant mode event earlier)) (sum_option (come_count plant task from) (used_by plant mode event earlier))
       (one (same_state from (shadow_after plant mode earlier)))
       (sum_by (left_count from) (option_to_list (used_by plant mode event earlier) ++ window.uses))
-      (sum_by (come_count plant subject from) (option_to_list (used_by plant mode event earlier) ++ window.uses))
+      (sum_by (come_count plant task from) (option_to_list (used_by plant mode event earlier) ++ window.uses))
       (sum_with (left_count from) (used_by plant mode event earlier) window.uses)
-      (sum_with (come_count plant subject from) (used_by plant mode event earlier) window.uses)
+      (sum_with (come_count plant task from) (used_by plant mode event earlier) window.uses)
       (used_left plant mode from event earlier)
-      (while_leaving plant states subject mode from earlier before window later.case is_open);
+      (while_leaving plant states task mode from earlier before window later.case is_open);
 }
 
-leaves_is : (plant : PlantData) (subject : Context) (from : AbsState) → IsDifference (leaves plant subject from).factor (left_count from) (come_count plant subject from)
-leaves_is plant subject from column =
-    difference_counted (moves_that (λ going. same_state from going.from) column) (into plant subject (same_state from) column)
-    (left_count from column) (come_count plant subject from column)
-    (moves_counted (λ going. same_state from going.from) column) (into_counted plant subject (same_state from) column)
+leaves_is : (plant : PlantData) (task : ℕ) (from : AbsState) → IsDifference (leaves plant task from).factor (left_count from) (come_count plant task from)
+leaves_is plant task from column =
+    difference_counted (moves_that (λ going. same_state from going.from) column) (into plant task (same_state from) column)
+    (left_count from column) (come_count plant task from column)
+    (moves_counted (λ going. same_state from going.from) column) (into_counted plant task (same_state from) column)
 
 pub meets_leaving : MeetsLeaving
-meets_leaving plant states subject mode events state uses since case used =
-    all_made (Meets uses) (leaves plant subject) (filter (λ from. is_active_in from subject) states) (λ from.
-    meets_by (leaves plant subject from).factor (left_count from) (come_count plant subject from) 0 uses (leaves_is plant subject from)
-    (of_used plant states subject mode (λ events state uses since. sum_by (left_count from) uses ≤ sum_by (come_count plant subject from) uses + 0)
-    (leaving_uses plant states subject mode from) events state uses since case used))
+meets_leaving plant states task mode events state uses since case used =
+    all_made (Meets uses) (leaves plant task) (filter (λ from. is_active_in from (contexts.Task task)) states) (λ from.
+    meets_by (leaves plant task from).factor (left_count from) (come_count plant task from) 0 uses (leaves_is plant task from)
+    (of_used plant states task mode (λ events state uses since. sum_by (left_count from) uses ≤ sum_by (come_count plant task from) uses + 0)
+    (leaving_uses plant states task mode from) events state uses since case used))

@@ -4,8 +4,8 @@ use Rattle.std.specs.Prelude.{◌||◌, not, slice_get}
 use Rattle.std.specs.List.{list_any, range_with_len}
 use Rattle.std.proofs.lemmas.List.Elements.{Contains-append_left, Contains-append_right}
 use Rattle.std.proofs.lemmas.Option.{none-some, same_Some}
+use Rattle.osek_kernel.specs.declared.context.Context.TheVariants as contexts
 use Rattle.flow_graph.specs.declared.edge.Edge.{Edge}
-use Rattle.osek_kernel.specs.declared.context.Context.{Context}
 use Rattle.wcet_atomic_blocks.specs.Blocks.{edges_at, is_service}
 use Rattle.wcet_atomic_blocks.specs.Plants.{PlantData}
 use Rattle.abstract_sched.specs.declared.states.AbsState.{AbsState}
@@ -16,75 +16,75 @@ use Rattle.activation_windows.proofs.Moving.{flat_member}
 
 -- ---- The parts of the columns
 
-moves_of : PlantData → List AbsState → Context → List Going
-moves_of plant states subject = filter (λ going. is_active_in going.from subject) (goings plant states)
+moves_of : PlantData → List AbsState → ℕ → List Going
+moves_of plant states task = filter (λ going. is_active_in going.from (contexts.Task task)) (goings plant states)
 
-among_starts : (plant : PlantData) (states : List AbsState) (subject : Context) (start : Start) → Contains (starts plant states subject) start
-    → Contains (columns plant states subject) (Starts start)
+among_starts : (plant : PlantData) (states : List AbsState) (task : ℕ) (start : Start) → Contains (starts plant states task) start
+    → Contains (columns plant states task) (Starts start)
 unfolding moves_of
-among_starts plant states subject start has =
-    Contains-append_left (map Starts (starts plant states subject))
-    (map Moves (moves_of plant states subject) ++ (map Goes (alongs plant) ++ (map Begins (begun_blocks plant subject) ++ map Stands (positions plant states subject))))
-    (Starts start) (mapped_member Starts (starts plant states subject) start has)
+among_starts plant states task start has =
+    Contains-append_left (map Starts (starts plant states task))
+    (map Moves (moves_of plant states task) ++ (map Goes (alongs plant) ++ (map Begins (begun_blocks plant task) ++ map Stands (positions plant states task))))
+    (Starts start) (mapped_member Starts (starts plant states task) start has)
 
-among_moves : (plant : PlantData) (states : List AbsState) (subject : Context) (going : Going) → Contains (moves_of plant states subject) going
-    → Contains (columns plant states subject) (Moves going)
+among_moves : (plant : PlantData) (states : List AbsState) (task : ℕ) (going : Going) → Contains (moves_of plant states task) going
+    → Contains (columns plant states task) (Moves going)
 unfolding moves_of
-among_moves plant states subject going has =
-    Contains-append_right (map Starts (starts plant states subject))
-    (map Moves (moves_of plant states subject) ++ (map Goes (alongs plant) ++ (map Begins (begun_blocks plant subject) ++ map Stands (positions plant states subject))))
+among_moves plant states task going has =
+    Contains-append_right (map Starts (starts plant states task))
+    (map Moves (moves_of plant states task) ++ (map Goes (alongs plant) ++ (map Begins (begun_blocks plant task) ++ map Stands (positions plant states task))))
     (Moves going)
-    (Contains-append_left (map Moves (moves_of plant states subject))
-    (map Goes (alongs plant) ++ (map Begins (begun_blocks plant subject) ++ map Stands (positions plant states subject)))
-    (Moves going) (mapped_member Moves (moves_of plant states subject) going has))
+    (Contains-append_left (map Moves (moves_of plant states task))
+    (map Goes (alongs plant) ++ (map Begins (begun_blocks plant task) ++ map Stands (positions plant states task)))
+    (Moves going) (mapped_member Moves (moves_of plant states task) going has))
 
-behind_moves : (plant : PlantData) (states : List AbsState) (subject : Context) (column : Column)
-    → Contains (map Goes (alongs plant) ++ (map Begins (begun_blocks plant subject) ++ map Stands (positions plant states subject))) column
-    → Contains (columns plant states subject) column
+behind_moves : (plant : PlantData) (states : List AbsState) (task : ℕ) (column : Column)
+    → Contains (map Goes (alongs plant) ++ (map Begins (begun_blocks plant task) ++ map Stands (positions plant states task))) column
+    → Contains (columns plant states task) column
 unfolding moves_of
-behind_moves plant states subject column has =
-    Contains-append_right (map Starts (starts plant states subject))
-    (map Moves (moves_of plant states subject) ++ (map Goes (alongs plant) ++ (map Begins (begun_blocks plant subject) ++ map Stands (positions plant states subject))))
+behind_moves plant states task column has =
+    Contains-append_right (map Starts (starts plant states task))
+    (map Moves (moves_of plant states task) ++ (map Goes (alongs plant) ++ (map Begins (begun_blocks plant task) ++ map Stands (positions plant states task))))
     column
-    (Contains-append_right (map Moves (moves_of plant states subject))
-    (map Goes (alongs plant) ++ (map Begins (begun_blocks plant subject) ++ map Stands (positions plant states subject))) column has)
+    (Contains-append_right (map Moves (moves_of plant states task))
+    (map Goes (alongs plant) ++ (map Begins (begun_blocks plant task) ++ map Stands (positions plant states task))) column has)
 
-pub goes_listed : (plant : PlantData) (states : List AbsState) (subject : Context) (along : Along) → Contains (alongs plant) along
-    → Contains (columns plant states subject) (Goes along)
-goes_listed plant states subject along has = behind_moves plant states subject (Goes along)
-    (Contains-append_left (map Goes (alongs plant)) (map Begins (begun_blocks plant subject) ++ map Stands (positions plant states subject)) (Goes along)
+pub goes_listed : (plant : PlantData) (states : List AbsState) (task : ℕ) (along : Along) → Contains (alongs plant) along
+    → Contains (columns plant states task) (Goes along)
+goes_listed plant states task along has = behind_moves plant states task (Goes along)
+    (Contains-append_left (map Goes (alongs plant)) (map Begins (begun_blocks plant task) ++ map Stands (positions plant states task)) (Goes along)
     (mapped_member Goes (alongs plant) along has))
 
 -- ---- Starts and moves
 
-pub start_in_listed : (plant : PlantData) (states : List AbsState) (subject : Context) (mode : ℕ) → mode < length plant.system.modes
-    → is_active_in (initial plant mode) subject ≡ true
-    → Contains (starts plant states subject) (In mode)
-start_in_listed plant states subject mode within active =
-    let some : List ℕ = filter (λ m. is_active_in (initial plant m) subject) (range_with_len 0 (length plant.system.modes)) in
-    Contains-append_left (map In some) (map By (filter (activates plant subject) (goings plant states))) (In mode)
+pub start_in_listed : (plant : PlantData) (states : List AbsState) (task mode : ℕ) → mode < length plant.system.modes
+    → is_active_in (initial plant mode) (contexts.Task task) ≡ true
+    → Contains (starts plant states task) (In mode)
+start_in_listed plant states task mode within active =
+    let some : List ℕ = filter (λ m. is_active_in (initial plant m) (contexts.Task task)) (range_with_len 0 (length plant.system.modes)) in
+    Contains-append_left (map In some) (map By (filter (activates plant (contexts.Task task)) (goings plant states))) (In mode)
     (mapped_member In some mode
-    (kept_member (λ m. is_active_in (initial plant m) subject) (range_with_len 0 (length plant.system.modes)) mode active
+    (kept_member (λ m. is_active_in (initial plant m) (contexts.Task task)) (range_with_len 0 (length plant.system.modes)) mode active
     (range_member (length plant.system.modes) mode within)))
 
-pub start_by_listed : (plant : PlantData) (states : List AbsState) (subject : Context) (going : Going) → Contains (goings plant states) going
-    → activates plant subject going ≡ true
-    → Contains (starts plant states subject) (By going)
-start_by_listed plant states subject going has starts_it =
-    let some : List ℕ = filter (λ m. is_active_in (initial plant m) subject) (range_with_len 0 (length plant.system.modes)) in
-    Contains-append_right (map In some) (map By (filter (activates plant subject) (goings plant states))) (By going)
-    (mapped_member By (filter (activates plant subject) (goings plant states)) going
-    (kept_member (activates plant subject) (goings plant states) going starts_it has))
+pub start_by_listed : (plant : PlantData) (states : List AbsState) (task : ℕ) (going : Going) → Contains (goings plant states) going
+    → activates plant (contexts.Task task) going ≡ true
+    → Contains (starts plant states task) (By going)
+start_by_listed plant states task going has starts_it =
+    let some : List ℕ = filter (λ m. is_active_in (initial plant m) (contexts.Task task)) (range_with_len 0 (length plant.system.modes)) in
+    Contains-append_right (map In some) (map By (filter (activates plant (contexts.Task task)) (goings plant states))) (By going)
+    (mapped_member By (filter (activates plant (contexts.Task task)) (goings plant states)) going
+    (kept_member (activates plant (contexts.Task task)) (goings plant states) going starts_it has))
 
-pub starts_listed : (plant : PlantData) (states : List AbsState) (subject : Context) (start : Start) → Contains (starts plant states subject) start
-    → Contains (columns plant states subject) (Starts start)
-starts_listed plant states subject start has = among_starts plant states subject start has
+pub starts_listed : (plant : PlantData) (states : List AbsState) (task : ℕ) (start : Start) → Contains (starts plant states task) start
+    → Contains (columns plant states task) (Starts start)
+starts_listed plant states task start has = among_starts plant states task start has
 
-pub moves_listed : (plant : PlantData) (states : List AbsState) (subject : Context) (going : Going) → Contains (goings plant states) going
-    → is_active_in going.from subject ≡ true → Contains (columns plant states subject) (Moves going)
+pub moves_listed : (plant : PlantData) (states : List AbsState) (task : ℕ) (going : Going) → Contains (goings plant states) going
+    → is_active_in going.from (contexts.Task task) ≡ true → Contains (columns plant states task) (Moves going)
 unfolding moves_of
-moves_listed plant states subject going has active = among_moves plant states subject going
-    (kept_member (λ g. is_active_in g.from subject) (goings plant states) going active has)
+moves_listed plant states task going has active = among_moves plant states task going
+    (kept_member (λ g. is_active_in g.from (contexts.Task task)) (goings plant states) going active has)
 
 -- ---- Edges
 
@@ -111,24 +111,24 @@ along_member plant node place edge within instruction at =
 
 -- ---- Visits
 
-pub begins_listed : (plant : PlantData) (states : List AbsState) (subject : Context) (block : ℕ) → block < length plant.blocks.blocks
-    → is_own_entry plant subject block ≡ false → Contains (columns plant states subject) (Begins block)
-begins_listed plant states subject block within other =
-    behind_moves plant states subject (Begins block)
-    (Contains-append_right (map Goes (alongs plant)) (map Begins (begun_blocks plant subject) ++ map Stands (positions plant states subject)) (Begins block)
-    (Contains-append_left (map Begins (begun_blocks plant subject)) (map Stands (positions plant states subject)) (Begins block)
-    (mapped_member Begins (begun_blocks plant subject) block
-    (kept_member (λ b. not (is_own_entry plant subject b)) (range_with_len 0 (length plant.blocks.blocks)) block (ap not other)
+pub begins_listed : (plant : PlantData) (states : List AbsState) (task block : ℕ) → block < length plant.blocks.blocks
+    → is_own_entry plant task block ≡ false → Contains (columns plant states task) (Begins block)
+begins_listed plant states task block within other =
+    behind_moves plant states task (Begins block)
+    (Contains-append_right (map Goes (alongs plant)) (map Begins (begun_blocks plant task) ++ map Stands (positions plant states task)) (Begins block)
+    (Contains-append_left (map Begins (begun_blocks plant task)) (map Stands (positions plant states task)) (Begins block)
+    (mapped_member Begins (begun_blocks plant task) block
+    (kept_member (λ b. not (is_own_entry plant task b)) (range_with_len 0 (length plant.blocks.blocks)) block (ap not other)
     (range_member (length plant.blocks.blocks) block within)))))
 
-pub stands_listed : (plant : PlantData) (states : List AbsState) (subject : Context) (node : ℕ) → node < length plant.flow.nodes
-    → is_position plant (starts plant states subject) subject node ≡ true → Contains (columns plant states subject) (Stands node)
-stands_listed plant states subject node within is =
-    behind_moves plant states subject (Stands node)
-    (Contains-append_right (map Goes (alongs plant)) (map Begins (begun_blocks plant subject) ++ map Stands (positions plant states subject)) (Stands node)
-    (Contains-append_right (map Begins (begun_blocks plant subject)) (map Stands (positions plant states subject)) (Stands node)
-    (mapped_member Stands (positions plant states subject) node
-    (kept_member (is_position plant (starts plant states subject) subject) (range_with_len 0 (length plant.flow.nodes)) node is
+pub stands_listed : (plant : PlantData) (states : List AbsState) (task node : ℕ) → node < length plant.flow.nodes
+    → is_position plant (starts plant states task) task node ≡ true → Contains (columns plant states task) (Stands node)
+stands_listed plant states task node within is =
+    behind_moves plant states task (Stands node)
+    (Contains-append_right (map Goes (alongs plant)) (map Begins (begun_blocks plant task) ++ map Stands (positions plant states task)) (Stands node)
+    (Contains-append_right (map Begins (begun_blocks plant task)) (map Stands (positions plant states task)) (Stands node)
+    (mapped_member Stands (positions plant states task) node
+    (kept_member (is_position plant (starts plant states task) task) (range_with_len 0 (length plant.flow.nodes)) node is
     (range_member (length plant.flow.nodes) node within)))))
 
 pub any_member : {A : Type 0} (p : A → Bool) (xs : List A) (x : A) → Contains xs x → p x ≡ true → list_any p xs ≡ true

@@ -37,15 +37,15 @@ use Rattle.activation_windows.proofs.Windows.{serve_active}
 
 -- ---- The shadow's kernel
 
-pub kernel_in : (plant : PlantData) (states : List AbsState) (subject : Context) (mode : ℕ) (events : List Event) (state : MachineState)
-    → IsDeclaredCase plant states subject mode events state → kernel_of (shadow_after plant mode events) ≡ state.kernel
-kernel_in plant states subject mode events state case =
-    ap kernel_of (shadow_is plant mode events state case.of.run) ∙ (covered_of plant states subject mode events state case).kernel
+pub kernel_in : (plant : PlantData) (states : List AbsState) (task mode : ℕ) (events : List Event) (state : MachineState)
+    → IsDeclaredCase plant states task mode events state → kernel_of (shadow_after plant mode events) ≡ state.kernel
+kernel_in plant states task mode events state case =
+    ap kernel_of (shadow_is plant mode events state case.of.run) ∙ (covered_of plant states task mode events state case).kernel
 
-pub shadow_listed : (plant : PlantData) (states : List AbsState) (subject : Context) (mode : ℕ) (events : List Event) (state : MachineState)
-    → IsDeclaredCase plant states subject mode events state → Contains states (shadow_after plant mode events)
-shadow_listed plant states subject mode events state case =
-    subst (Contains states) (sym (shadow_is plant mode events state case.of.run)) (covered_of plant states subject mode events state case).listed
+pub shadow_listed : (plant : PlantData) (states : List AbsState) (task mode : ℕ) (events : List Event) (state : MachineState)
+    → IsDeclaredCase plant states task mode events state → Contains states (shadow_after plant mode events)
+shadow_listed plant states task mode events state case =
+    subst (Contains states) (sym (shadow_is plant mode events state case.of.run)) (covered_of plant states task mode events state case).listed
 
 -- ---- Members of flattened lists
 
@@ -68,33 +68,33 @@ going_among plant states from moves move listed succeeds has =
     gone : List Move → List Going
     gone ms = map (λ m. record { from = from; move = m }) ms
 
-made_listed : (plant : PlantData) (states : List AbsState) (subject : Context) (mode : ℕ) (label : MoveLabel) (event : Event) (earlier : List Event)
-    (before after : MachineState) → IsLater plant states subject mode event earlier before after
+made_listed : (plant : PlantData) (states : List AbsState) (task mode : ℕ) (label : MoveLabel) (event : Event) (earlier : List Event)
+    (before after : MachineState) → IsLater plant states task mode event earlier before after
     → MakesMove plant mode label event earlier before after → Contains (goings plant states) (going_by plant mode label event earlier)
-made_listed plant states subject mode label event earlier before after later makes =
+made_listed plant states task mode label event earlier before after later makes =
     let now = shadow_is plant mode earlier before later.case.of.run in
     let then = shadow_is plant mode (event ∷ earlier) after later.whole.of.run in
     going_among plant states (shadow_after plant mode earlier) makes.moves (record { label = label; to = shadow_after plant mode (event ∷ earlier) })
-    (shadow_listed plant states subject mode earlier before later.case)
+    (shadow_listed plant states task mode earlier before later.case)
     (ap (successors plant) now ∙ makes.moved)
     (subst (λ (s : AbsState). Contains makes.moves (record { label = label; to = s })) (sym then) makes.listed)
 
 -- a step with a label is that move out of a listed state
-pub going_listed : (plant : PlantData) (states : List AbsState) (subject : Context) (mode : ℕ) (label : MoveLabel) (event : Event) (earlier : List Event)
-    (before after : MachineState) → IsLater plant states subject mode event earlier before after
+pub going_listed : (plant : PlantData) (states : List AbsState) (task mode : ℕ) (label : MoveLabel) (event : Event) (earlier : List Event)
+    (before after : MachineState) → IsLater plant states task mode event earlier before after
     → label_of plant event ≡ Some label → Contains (goings plant states) (going_by plant mode label event earlier)
-going_listed plant states subject mode label (Arrive arrival) earlier before after later e = absurd (none-some label e)
-going_listed plant states subject mode label (Take taking) earlier before after later e =
-    made_listed plant states subject mode label (Take taking) earlier before after later
+going_listed plant states task mode label (Arrive arrival) earlier before after later e = absurd (none-some label e)
+going_listed plant states task mode label (Take taking) earlier before after later e =
+    made_listed plant states task mode label (Take taking) earlier before after later
     (subst (λ (l : MoveLabel). MakesMove plant mode l (Take taking) earlier before after) (same_Some (labels.Take taking.source) label e)
-    (step_of plant states subject mode (Take taking) earlier before after later).0)
-going_listed plant states subject mode label (Execute execution) earlier before after later e = absurd (none-some label e)
-going_listed plant states subject mode label (Serve call) earlier before after later e =
-    let calls : CallsAtExit plant mode call earlier before after = (step_of plant states subject mode (Serve call) earlier before after later).0 in
-    made_listed plant states subject mode label (Serve call) earlier before after later
+    (step_of plant states task mode (Take taking) earlier before after later).0)
+going_listed plant states task mode label (Execute execution) earlier before after later e = absurd (none-some label e)
+going_listed plant states task mode label (Serve call) earlier before after later e =
+    let calls : CallsAtExit plant mode call earlier before after = (step_of plant states task mode (Serve call) earlier before after later).0 in
+    made_listed plant states task mode label (Serve call) earlier before after later
     (subst (λ (l : MoveLabel). MakesMove plant mode l (Serve call) earlier before after)
     (same_Some (labels.Service calls.node) label (sym (ap (option_map labels.Service) calls.stands) ∙ e)) calls.makes)
-going_listed plant states subject mode label (Idle cycles) earlier before after later e = absurd (none-some label e)
+going_listed plant states task mode label (Idle cycles) earlier before after later e = absurd (none-some label e)
 
 -- ---- The moves that end a context
 
@@ -106,51 +106,51 @@ service_called plant is call before after step asks =
     (service_there plant is asks.at.number asks.at.node (Some asks.serves.service) asks.at.listed asks.service_is)
     ∙ (ap service_of (sym asks.serves.number_is) ∙ step.service)
 
-pub asks_of : (plant : PlantData) (states : List AbsState) (subject : Context) (mode : ℕ) (call : ServiceCall) (earlier : List Event) (before after : MachineState)
-    → IsLater plant states subject mode (Serve call) earlier before after → AsksAt plant call
-asks_of plant states subject mode call earlier before after later =
-    let all = covers_of plant states subject mode earlier before later.case in
+pub asks_of : (plant : PlantData) (states : List AbsState) (task mode : ℕ) (call : ServiceCall) (earlier : List Event) (before after : MachineState)
+    → IsLater plant states task mode (Serve call) earlier before after → AsksAt plant call
+asks_of plant states task mode call earlier before after later =
+    let all = covers_of plant states task mode earlier before later.case in
     asks_at plant later.case.of.belongs call before after all.room later.step all.walking
 
 -- the caller runs in the shadow before
-pub caller_runs : (plant : PlantData) (states : List AbsState) (subject : Context) (mode : ℕ) (call : ServiceCall) (earlier : List Event) (before after : MachineState)
-    → IsLater plant states subject mode (Serve call) earlier before after → running_in plant (shadow_after plant mode earlier) ≡ Some call.caller
-caller_runs plant states subject mode call earlier before after later =
-    ap (runs plant.system) (kernel_in plant states subject mode earlier before later.case) ∙ later.step.running
+pub caller_runs : (plant : PlantData) (states : List AbsState) (task mode : ℕ) (call : ServiceCall) (earlier : List Event) (before after : MachineState)
+    → IsLater plant states task mode (Serve call) earlier before after → running_in plant (shadow_after plant mode earlier) ≡ Some call.caller
+caller_runs plant states task mode call earlier before after later =
+    ap (runs plant.system) (kernel_in plant states task mode earlier before later.case) ∙ later.step.running
 
 -- what a call says of ends: the label tells the service that is called
-call_ends_in : (plant : PlantData) (states : List AbsState) (subject : Context) (mode : ℕ) (context : Context) (label : MoveLabel) (call : ServiceCall)
-    (earlier : List Event) (before after : MachineState) → IsLater plant states subject mode (Serve call) earlier before after
+call_ends_in : (plant : PlantData) (states : List AbsState) (task mode : ℕ) (context : Context) (label : MoveLabel) (call : ServiceCall)
+    (earlier : List Event) (before after : MachineState) → IsLater plant states task mode (Serve call) earlier before after
     → label_of plant (Serve call) ≡ Some label
     → ends_in plant context (going_by plant mode label (Serve call) earlier) ≡ (is_this context (Some call.caller) && ends_caller call.service)
-call_ends_in plant states subject mode context label call earlier before after later e =
-    let asks = asks_of plant states subject mode call earlier before after later in
+call_ends_in plant states task mode context label call earlier before after later e =
+    let asks = asks_of plant states task mode call earlier before after later in
     let is : labels.Service asks.at.number ≡ label = same_Some (labels.Service asks.at.number) label (sym (ap (option_map labels.Service) asks.at.found) ∙ e) in
     ap (λ (l : MoveLabel). is_this context (running_in plant (shadow_after plant mode earlier)) && option_map_or ends_caller (service_in plant l) false)
     (sym is)
     ∙ (ap (λ (o : Option Service). is_this context (running_in plant (shadow_after plant mode earlier)) && option_map_or ends_caller o false)
     (service_called plant later.case.of.belongs call before after later.step asks)
-    ∙ ap (λ (o : Option Context). is_this context o && ends_caller call.service) (caller_runs plant states subject mode call earlier before after later))
+    ∙ ap (λ (o : Option Context). is_this context o && ends_caller call.service) (caller_runs plant states task mode call earlier before after later))
 
 ends_anyhow : (b : Bool) → (b ≡ false → ⊥) → b ≡ true
 ends_anyhow true not = refl
 ends_anyhow false not = absurd (not refl)
 
 -- a step that ends the context is a move that does
-pub ends_too : (plant : PlantData) (states : List AbsState) (subject : Context) (mode : ℕ) (context : Context) (label : MoveLabel) (event : Event) (earlier : List Event)
-    (before after : MachineState) → IsLater plant states subject mode event earlier before after
+pub ends_too : (plant : PlantData) (states : List AbsState) (task mode : ℕ) (context : Context) (label : MoveLabel) (event : Event) (earlier : List Event)
+    (before after : MachineState) → IsLater plant states task mode event earlier before after
     → label_of plant event ≡ Some label → ended_by event ≡ Some context → ends_in plant context (going_by plant mode label event earlier) ≡ true
-ends_too plant states subject mode context label (Arrive arrival) earlier before after later e ends = absurd (none-some context ends)
-ends_too plant states subject mode context label (Take taking) earlier before after later e ends = absurd (none-some context ends)
-ends_too plant states subject mode context label (Execute execution) earlier before after later e ends = absurd (none-some context ends)
-ends_too plant states subject mode context label (Serve call) earlier before after later e ends =
+ends_too plant states task mode context label (Arrive arrival) earlier before after later e ends = absurd (none-some context ends)
+ends_too plant states task mode context label (Take taking) earlier before after later e ends = absurd (none-some context ends)
+ends_too plant states task mode context label (Execute execution) earlier before after later e ends = absurd (none-some context ends)
+ends_too plant states task mode context label (Serve call) earlier before after later e ends =
     let replied : (served_by plant.system call before).reply.ended ≡ Some context = ap (λ (r : Reply). r.ended) (sym later.step.replied) ∙ ends in
     let who : context ≡ call.caller = (serve_active plant.system call before plant.image after later.step).ended context replied in
     let goes : ends_caller call.service ≡ true = ends_anyhow (ends_caller call.service) (λ on. none-some context
     (sym (served_stays plant.system before.kernel call.caller call.service (argument_in call.before) on) ∙ replied)) in
-    call_ends_in plant states subject mode context label call earlier before after later e
+    call_ends_in plant states task mode context label call earlier before after later e
     ∙ (ap (λ b. b && ends_caller call.service) (is_this_one context (Some call.caller) (ap Some (sym who))) ∙ goes)
-ends_too plant states subject mode context label (Idle cycles) earlier before after later e ends = absurd (none-some context ends)
+ends_too plant states task mode context label (Idle cycles) earlier before after later e ends = absurd (none-some context ends)
 
 both_false : (a b : Bool) → (a ≡ true → b ≡ true → ⊥) → (a && b) ≡ false
 both_false true true not = absurd (not refl refl)
@@ -162,21 +162,21 @@ no_end None context only not = refl
 no_end (Some c) context only not = absurd (not (ap Some (only c refl)))
 
 -- a step that doesn't end the context is no move that does
-pub ends_only : (plant : PlantData) (states : List AbsState) (subject : Context) (mode : ℕ) (context : Context) (label : MoveLabel) (event : Event) (earlier : List Event)
-    (before after : MachineState) → IsLater plant states subject mode event earlier before after
+pub ends_only : (plant : PlantData) (states : List AbsState) (task mode : ℕ) (context : Context) (label : MoveLabel) (event : Event) (earlier : List Event)
+    (before after : MachineState) → IsLater plant states task mode event earlier before after
     → label_of plant event ≡ Some label → is_this context (ended_by event) ≡ false → ends_in plant context (going_by plant mode label event earlier) ≡ false
-ends_only plant states subject mode context label (Arrive arrival) earlier before after later e stays = absurd (none-some label e)
-ends_only plant states subject mode context label (Take taking) earlier before after later e stays =
+ends_only plant states task mode context label (Arrive arrival) earlier before after later e stays = absurd (none-some label e)
+ends_only plant states task mode context label (Take taking) earlier before after later e stays =
     ap (λ (l : MoveLabel). is_this context (running_in plant (shadow_after plant mode earlier)) && option_map_or ends_caller (service_in plant l) false)
     (sym (same_Some (labels.Take taking.source) label e))
     ∙ both_false (is_this context (running_in plant (shadow_after plant mode earlier))) false (λ a b. cc)
-ends_only plant states subject mode context label (Execute execution) earlier before after later e stays = absurd (none-some label e)
-ends_only plant states subject mode context label (Serve call) earlier before after later e stays =
+ends_only plant states task mode context label (Execute execution) earlier before after later e stays = absurd (none-some label e)
+ends_only plant states task mode context label (Serve call) earlier before after later e stays =
     let done = served_by plant.system call before in
     let who = serve_active plant.system call before plant.image after later.step in
     let clean : done.reply.misuse ≡ false =
-    ap (λ (r : Reply). r.misuse) (sym later.step.replied) ∙ (step_of plant states subject mode (Serve call) earlier before after later).1 in
-    call_ends_in plant states subject mode context label call earlier before after later e
+    ap (λ (r : Reply). r.misuse) (sym later.step.replied) ∙ (step_of plant states task mode (Serve call) earlier before after later).1 in
+    call_ends_in plant states task mode context label call earlier before after later e
     ∙ both_false (is_this context (Some call.caller)) (ends_caller call.service) (λ is goes.
     let caller : Some call.caller ≡ Some context = this_is context (Some call.caller) is in
     let none : done.reply.ended ≡ None = no_end done.reply.ended call.caller who.ended (λ ends.
@@ -184,4 +184,4 @@ ends_only plant states subject mode context label (Serve call) earlier before af
     let on = ending.goes_on plant.system before.kernel call.caller call.service (number_in call.before) (argument_in call.before)
     later.step.service clean none in
     let wrong : true ≡ false = sym goes ∙ (sym (ap (λ (s : Option Service). option_map_or ends_caller s false) later.step.service) ∙ on) in cc)
-ends_only plant states subject mode context label (Idle cycles) earlier before after later e stays = absurd (none-some label e)
+ends_only plant states task mode context label (Idle cycles) earlier before after later e stays = absurd (none-some label e)

@@ -1,8 +1,8 @@
 -- The nodes that the steps of a run tell are those at which its contexts stand.
-use Rattle.std.proofs.Common.{◌≡◌, ℕ, ◌+◌, ◌-◌, ◌<◌, ◌^◌, inl, inr, Bool, true, false, cond, List, [], ◌∷◌, length, Option, Some, None, refl, sym, ◌∙◌, ap, subst, arith, is_some, IsSome, option_map}
+use Rattle.std.proofs.Common.{◌≡◌, ℕ, ◌+◌, ◌-◌, ◌<◌, ◌^◌, inl, inr, Bool, true, false, cond, List, [], ◌∷◌, length, Option, Some, None, refl, sym, ◌∙◌, ap, subst, arith, is_some, IsSome, ◌↔◌, option_map}
 use Rattle.std.specs.Prelude.{◌&&◌, ◌==◌, nat_eq, slice_get, option_and_then}
 use Rattle.std.specs.Option.{option_map_or}
-use Rattle.std.proofs.lemmas.Bool.{lt-ltb, le-ltb, and_parts, eqb-true}
+use Rattle.std.proofs.lemmas.Bool.{lt-ltb, le-ltb, and_parts, eqb-true, eq-eqb}
 use Rattle.std.proofs.lemmas.List.{nil_from_length}
 use Rattle.std.proofs.lemmas.List.FromFn.{get_or-map-range_with_len}
 use Rattle.std.proofs.lemmas.Option.{none-some, same_Some, slice_get_within}
@@ -42,7 +42,7 @@ use Rattle.wcet_atomic_blocks.specs.Plants.{PlantData, IsPlant, IsEntryNode}
 use Rattle.abstract_sched.specs.declared.states.AbsState.{AbsState}
 use Rattle.scheduler_moves.specs.Moves.{is_active}
 use Rattle.shadow_runs.specs.Shadow.{node_of}
-use Rattle.shadow_runs.proofs.Begun.{active_test, who_exists}
+use Rattle.shadow_runs.proofs.Begun.{who_exists}
 use Rattle.shadow_runs.proofs.Behind.{AsksAt, asks_at}
 use Rattle.shadow_runs.proofs.Numbers.{at_number, HasTarget, target_there, leaves_there}
 use Rattle.shadow_runs.proofs.Planted.{program_in, has_entry_block, have_graph}
@@ -140,6 +140,14 @@ start_there plant mode c exists =
     (place_within plant.system c exists) (omega arith)
     ∙ ap (start_node plant (initial plant.system mode)) (context_there plant.system c exists)
 
+is_isr : (i : ℕ) (isr : Option ℕ) → (option_map_or (nat_eq i) isr false ≡ true) ↔ (isr ≡ Some i)
+is_isr i None = (λ e. absurd cc, λ e. absurd cc)
+is_isr i (Some j) = (λ e. ap Some (sym (eqb-true i j e)), λ e. eq-eqb i j (let same : j ≡ i = cc in sym same))
+
+pub active_test : (kernel : Kernel) (c : Context) → (is_active kernel c ≡ true) ↔ IsActive kernel c
+active_test kernel (contexts.Task t) = (λ e. e, λ e. e)
+active_test kernel (contexts.Isr i) = is_isr i kernel.isr
+
 not_true : (b : Bool) → (b ≡ true → ⊥) → b ≡ false
 not_true true not = absurd (not refl)
 not_true false not = refl
@@ -229,19 +237,19 @@ caller_tells : (f : Option Standing → Option ℕ) (ended : Option Context) (th
 caller_tells f None then next none same = same refl
 caller_tells f (Some c) then next none same = sym none
 
-serve_tells : (plant : PlantData) (states : List AbsState) (subject : Context) (mode : ℕ) (call : ServiceCall) (earlier : List Event) (before after : MachineState)
-    → IsLater plant states subject mode (Serve call) earlier before after
+serve_tells : (plant : PlantData) (states : List AbsState) (task mode : ℕ) (call : ServiceCall) (earlier : List Event) (before after : MachineState)
+    → IsLater plant states task mode (Serve call) earlier before after
     → Tells plant.system (λ c. option_and_then (node_of plant c)) before.standings (nodes_after plant mode earlier)
     → Tells plant.system (λ c. option_and_then (node_of plant c)) after.standings (nodes_after plant mode (Serve call ∷ earlier))
-serve_tells plant states subject mode call earlier before after later tells =
+serve_tells plant states task mode call earlier before after later tells =
     let is : IsPlant plant = later.case.of.belongs in
     let step : Serves plant.image plant.system call before after = later.step in
-    let all = covers_of plant states subject mode earlier before later.case in
+    let all = covers_of plant states task mode earlier before later.case in
     let done = served_by plant.system call before in
     let next = gone_on done.reply.code call.before in
     let asks = asks_at plant is call before after all.room step all.walking in
     let clean : done.reply.misuse ≡ false =
-    ap (λ (r : Reply). r.misuse) (sym step.replied) ∙ (step_of plant states subject mode (Serve call) earlier before after later).1 in
+    ap (λ (r : Reply). r.misuse) (sym step.replied) ∙ (step_of plant states task mode (Serve call) earlier before after later).1 in
     let on : done.reply.ended ≡ None → node_after plant call ≡ node_of plant call.caller next =
     (λ stays. let goes = goes_to_successor plant is call before after step asks clean stays in
     ap (option_and_then (successor plant.flow)) asks.at.found ∙ (goes.1 ∙ sym goes.2)) in
@@ -263,14 +271,14 @@ serve_tells plant states subject mode call earlier before after later tells =
 
 -- ---- After the other steps
 
-take_tells : (plant : PlantData) (states : List AbsState) (subject : Context) (mode : ℕ) (taking : Taking) (earlier : List Event) (before after : MachineState)
-    → IsLater plant states subject mode (Take taking) earlier before after
+take_tells : (plant : PlantData) (states : List AbsState) (task mode : ℕ) (taking : Taking) (earlier : List Event) (before after : MachineState)
+    → IsLater plant states task mode (Take taking) earlier before after
     → Tells plant.system (λ c. option_and_then (node_of plant c)) before.standings (nodes_after plant mode earlier)
     → Tells plant.system (λ c. option_and_then (node_of plant c)) after.standings (nodes_after plant mode (Take taking ∷ earlier))
-take_tells plant states subject mode taking earlier before after later tells =
+take_tells plant states task mode taking earlier before after later tells =
     let is : IsPlant plant = later.case.of.belongs in
     let step : Takes plant.image plant.system taking before after = later.step in
-    let all = covers_of plant states subject mode earlier before later.case in
+    let all = covers_of plant states task mode earlier before later.case in
     let who = (taken_by plant.system taking.source before).started in
     let done : Tells plant.system (λ c. option_and_then (node_of plant c))
     (started plant.system (at_entry plant.image plant.system taking.registers) who before.standings)
@@ -284,13 +292,13 @@ take_tells plant states subject mode taking earlier before after later tells =
     (started plant.system (at_entry plant.image plant.system taking.registers) who before.standings)
     (started plant.system (entry_node plant) w (nodes_after plant mode earlier))) (sym step.started) done)
 
-execute_tells : (plant : PlantData) (states : List AbsState) (subject : Context) (mode : ℕ) (execution : Execution) (earlier : List Event) (before after : MachineState)
-    → IsLater plant states subject mode (Execute execution) earlier before after
+execute_tells : (plant : PlantData) (states : List AbsState) (task mode : ℕ) (execution : Execution) (earlier : List Event) (before after : MachineState)
+    → IsLater plant states task mode (Execute execution) earlier before after
     → Tells plant.system (λ c. option_and_then (node_of plant c)) before.standings (nodes_after plant mode earlier)
     → Tells plant.system (λ c. option_and_then (node_of plant c)) after.standings (nodes_after plant mode (Execute execution ∷ earlier))
-execute_tells plant states subject mode execution earlier before after later tells =
+execute_tells plant states task mode execution earlier before after later tells =
     let step : Executes plant.image plant.system execution before after = later.step in
-    let all = covers_of plant states subject mode earlier before later.case in
+    let all = covers_of plant states task mode earlier before later.case in
     subst (λ (s : MachineState). Tells plant.system (λ c. option_and_then (node_of plant c)) s.standings (nodes_after plant mode (Execute execution ∷ earlier)))
     (sym step.becomes)
     (placed_tells plant.system (λ c. option_and_then (node_of plant c)) execution.context (Some execution.after)
@@ -300,24 +308,24 @@ execute_tells plant states subject mode execution earlier before after later tel
 -- ---- After every run
 
 -- the node that the steps tell of a context is the one at which it stands
-pub nodes_are : (plant : PlantData) (states : List AbsState) (subject : Context) (mode : ℕ) (events : List Event) (state : MachineState)
-    → IsDeclaredCase plant states subject mode events state
+pub nodes_are : (plant : PlantData) (states : List AbsState) (task mode : ℕ) (events : List Event) (state : MachineState)
+    → IsDeclaredCase plant states task mode events state
     → Tells plant.system (λ c. option_and_then (node_of plant c)) state.standings (nodes_after plant mode events)
-nodes_are plant states subject mode [] state case = start_tells plant case.of.belongs mode state case.of.run
-nodes_are plant states subject mode (Arrive arrival ∷ earlier) state case =
-    let later = later_of plant states subject mode (Arrive arrival) earlier state case in
+nodes_are plant states task mode [] state case = start_tells plant case.of.belongs mode state case.of.run
+nodes_are plant states task mode (Arrive arrival ∷ earlier) state case =
+    let later = later_of plant states task mode (Arrive arrival) earlier state case in
     subst (λ (s : MachineState). Tells plant.system (λ c. option_and_then (node_of plant c)) s.standings (nodes_after plant mode earlier))
-    (sym later.1.step.becomes) (nodes_are plant states subject mode earlier later.0 later.1.case)
-nodes_are plant states subject mode (Take taking ∷ earlier) state case =
-    let later = later_of plant states subject mode (Take taking) earlier state case in
-    take_tells plant states subject mode taking earlier later.0 state later.1 (nodes_are plant states subject mode earlier later.0 later.1.case)
-nodes_are plant states subject mode (Execute execution ∷ earlier) state case =
-    let later = later_of plant states subject mode (Execute execution) earlier state case in
-    execute_tells plant states subject mode execution earlier later.0 state later.1 (nodes_are plant states subject mode earlier later.0 later.1.case)
-nodes_are plant states subject mode (Serve call ∷ earlier) state case =
-    let later = later_of plant states subject mode (Serve call) earlier state case in
-    serve_tells plant states subject mode call earlier later.0 state later.1 (nodes_are plant states subject mode earlier later.0 later.1.case)
-nodes_are plant states subject mode (Idle cycles ∷ earlier) state case =
-    let later = later_of plant states subject mode (Idle cycles) earlier state case in
+    (sym later.1.step.becomes) (nodes_are plant states task mode earlier later.0 later.1.case)
+nodes_are plant states task mode (Take taking ∷ earlier) state case =
+    let later = later_of plant states task mode (Take taking) earlier state case in
+    take_tells plant states task mode taking earlier later.0 state later.1 (nodes_are plant states task mode earlier later.0 later.1.case)
+nodes_are plant states task mode (Execute execution ∷ earlier) state case =
+    let later = later_of plant states task mode (Execute execution) earlier state case in
+    execute_tells plant states task mode execution earlier later.0 state later.1 (nodes_are plant states task mode earlier later.0 later.1.case)
+nodes_are plant states task mode (Serve call ∷ earlier) state case =
+    let later = later_of plant states task mode (Serve call) earlier state case in
+    serve_tells plant states task mode call earlier later.0 state later.1 (nodes_are plant states task mode earlier later.0 later.1.case)
+nodes_are plant states task mode (Idle cycles ∷ earlier) state case =
+    let later = later_of plant states task mode (Idle cycles) earlier state case in
     subst (λ (s : MachineState). Tells plant.system (λ c. option_and_then (node_of plant c)) s.standings (nodes_after plant mode earlier))
-    (sym later.1.step.becomes) (nodes_are plant states subject mode earlier later.0 later.1.case)
+    (sym later.1.step.becomes) (nodes_are plant states task mode earlier later.0 later.1.case)

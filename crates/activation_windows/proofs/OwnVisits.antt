@@ -71,13 +71,13 @@ visit_backs plant block c instance (Goes along) is = absurd is
 visit_backs plant block c instance (Begins number) is = refl
 visit_backs plant block c instance (Stands node) is = refl
 
-begins_own : (plant : PlantData) (states : List AbsState) (subject : Context) (mode : ℕ) (events : List Event) (state : MachineState) (head : Node) (declared : ℕ) (l : Loop)
+begins_own : (plant : PlantData) (states : List AbsState) (task mode : ℕ) (events : List Event) (state : MachineState) (head : Node) (declared : ℕ) (l : Loop)
     (d : Context) (number : ℕ)
-    → IsDeclaredCase plant states subject mode events state → running_after plant mode events ≡ Some d
+    → IsDeclaredCase plant states task mode events state → running_after plant mode events ≡ Some d
     → position_of plant.system (begun plant mode events) d ≡ Some number
     → is_listed (instance_of plant.flow plant.blocks.blocks head declared l).blocks number ≡ true → context_at plant.system head.context ≡ d
 unfolding FirstIsInside NodesAreOfOwner
-begins_own plant states subject mode events state head declared l d number case runs began listed =
+begins_own plant states task mode events state head declared l d number case runs began listed =
     let block = some_passes (λ b. enters plant.flow head l b.begin) (slice_get plant.blocks.blocks number)
     (number_passes (block_enters plant.flow plant.blocks.blocks head l) (range_with_len 0 (length plant.blocks.blocks)) number listed) in
     let first = some_passes (is_inside head l) (slice_get plant.flow.nodes block.0.begin.first)
@@ -86,7 +86,7 @@ begins_own plant states subject mode events state head declared l d number case 
     (nodes_are_of_owner plant case.of.belongs number block.0 block.0.begin.first block.1
     (first_is_inside plant case.of.belongs number block.0 block.1)) in
     ap (context_at plant.system) (inside_context head l first.0 first.2 ∙ owner)
-    ∙ begun_owner plant states subject mode events state case d runs number block.0 began block.1
+    ∙ begun_owner plant states task mode events state case d runs number block.0 began block.1
 
 stands_own : (plant : PlantData) (head : Node) (declared : ℕ) (l : Loop) (d : Context) (node : ℕ) → owner_of plant node ≡ Some d
     → is_listed (instance_of plant.flow plant.blocks.blocks head declared l).within node ≡ true → context_at plant.system head.context ≡ d
@@ -97,19 +97,19 @@ stands_own plant head declared l d node owner listed =
     ∙ same_Some (context_at plant.system at.0.context) d (ap (option_map (λ (n : Node). context_at plant.system n.context)) (sym at.1) ∙ owner)
 
 -- a context that runs used no visit that counts, unless it is the loop's own
-pub other_entries : (plant : PlantData) (states : List AbsState) (subject : Context) (mode : ℕ) (events : List Event) (state : MachineState) (head : Node) (declared : ℕ)
+pub other_entries : (plant : PlantData) (states : List AbsState) (task mode : ℕ) (events : List Event) (state : MachineState) (head : Node) (declared : ℕ)
     (l : Loop) (d : Context) (visit : Column)
-    → IsDeclaredCase plant states subject mode events state → running_after plant mode events ≡ Some d
+    → IsDeclaredCase plant states task mode events state → running_after plant mode events ≡ Some d
     → IsVisit plant (position_of plant.system (begun plant mode events) d) d visit → (context_at plant.system head.context ≡ d → ⊥)
     → entries_count (instance_of plant.flow plant.blocks.blocks head declared l) visit ≡ 0
-other_entries plant states subject mode events state head declared l d (Starts start) case runs is other = absurd is
-other_entries plant states subject mode events state head declared l d (Moves going) case runs is other = absurd is
-other_entries plant states subject mode events state head declared l d (Goes along) case runs is other = absurd is
-other_entries plant states subject mode events state head declared l d (Begins number) case runs is other =
+other_entries plant states task mode events state head declared l d (Starts start) case runs is other = absurd is
+other_entries plant states task mode events state head declared l d (Moves going) case runs is other = absurd is
+other_entries plant states task mode events state head declared l d (Goes along) case runs is other = absurd is
+other_entries plant states task mode events state head declared l d (Begins number) case runs is other =
     let none = none_one (is_listed (instance_of plant.flow plant.blocks.blocks head declared l).blocks number)
-    (λ listed. other (begins_own plant states subject mode events state head declared l d number case runs is listed)) in
+    (λ listed. other (begins_own plant states task mode events state head declared l d number case runs is listed)) in
     omega arith
-other_entries plant states subject mode events state head declared l d (Stands node) case runs is other =
+other_entries plant states task mode events state head declared l d (Stands node) case runs is other =
     let none = none_one (is_listed (instance_of plant.flow plant.blocks.blocks head declared l).within node)
     (λ listed. other (stands_own plant head declared l d node is.owner listed)) in
     omega arith

@@ -108,11 +108,11 @@ visit_comes plant node (Goes along) is = absurd cc
 visit_comes plant node (Begins block) is = (let comes = first_comes plant node (slice_get plant.blocks.blocks block) in omega arith)
 visit_comes plant node (Stands at) is = omega arith
 
-used_comes : (plant : PlantData) (states : List AbsState) (subject : Context) (node : ℕ) (context : Context) (waits : Option Column) (at : Option ℕ)
-    → WaitsAt plant states subject context waits at
+used_comes : (plant : PlantData) (states : List AbsState) (task node : ℕ) (context : Context) (waits : Option Column) (at : Option ℕ)
+    → WaitsAt plant states task context waits at
     → has_come node None at ≤ sum_option (in_count plant node) waits + has_come node waits at
-used_comes plant states subject node context None at wait = omega arith
-used_comes plant states subject node context (Some column) at wait =
+used_comes plant states task node context None at wait = omega arith
+used_comes plant states task node context (Some column) at wait =
     let visit = wait column refl in
     let same : one (option_map_or (nat_eq node) at false) ≡ one (option_map_or (nat_eq node) (visit_node plant column) false) =
     ap (λ (o : Option ℕ). one (option_map_or (nat_eq node) o false)) visit.at in
@@ -230,22 +230,22 @@ Passes plant mode node context event earlier waiting =
     ≤ sum_option (in_count plant node) (used_by plant mode event earlier) + come_of plant node context waiting (nodes_after plant mode earlier)
 
 -- where the context that makes the step stands
-standing_come : (plant : PlantData) (states : List AbsState) (subject : Context) (mode node : ℕ) (earlier : List Event) (before : MachineState) (context : Context)
-    (standing : _) (at : ℕ) (waiting : List (Option Column)) → IsDeclaredCase plant states subject mode earlier before → IsContext plant.system context
+standing_come : (plant : PlantData) (states : List AbsState) (task mode node : ℕ) (earlier : List Event) (before : MachineState) (context : Context)
+    (standing : _) (at : ℕ) (waiting : List (Option Column)) → IsDeclaredCase plant states task mode earlier before → IsContext plant.system context
     → standing_of plant.system before context ≡ Some standing → node_of plant context standing ≡ Some at
     → position_of plant.system waiting context ≡ None
     → come_of plant node context waiting (nodes_after plant mode earlier) ≡ one (nat_eq node at)
-standing_come plant states subject mode node earlier before context standing at waiting case exists stands found free =
+standing_come plant states task mode node earlier before context standing at waiting case exists stands found free =
     ap (λ (w : Option Column). has_come node w (position_of plant.system (nodes_after plant mode earlier) context)) free
-    ∙ ap (has_come node None) (nodes_are plant states subject mode earlier before case context exists
+    ∙ ap (has_come node None) (nodes_are plant states task mode earlier before case context exists
     ∙ (ap (option_and_then (node_of plant context)) stands ∙ found))
 
-execute_passes : (plant : PlantData) (states : List AbsState) (subject : Context) (mode node : ℕ) (context : Context) (execution : Execution) (earlier : List Event)
+execute_passes : (plant : PlantData) (states : List AbsState) (task mode node : ℕ) (context : Context) (execution : Execution) (earlier : List Event)
     (before after : MachineState) (waiting : List (Option Column)) → IsNodeOf plant node context
-    → IsLater plant states subject mode (Execute execution) earlier before after → position_of plant.system waiting execution.context ≡ None
+    → IsLater plant states task mode (Execute execution) earlier before after → position_of plant.system waiting execution.context ≡ None
     → Passes plant mode node context (Execute execution) earlier waiting
-execute_passes plant states subject mode node context execution earlier before after waiting own later free =
-    let all = covers_of plant states subject mode earlier before later.case in
+execute_passes plant states task mode node context execution earlier before after waiting own later free =
+    let all = covers_of plant states task mode earlier before later.case in
     let runner : IsContext plant.system execution.context = running_exists plant.system before execution.context all.room later.step.running in
     let edge = takes_edge plant later.case.of.belongs execution before after all.room later.step later.pairs all.walking in
     let used : used_by plant mode (Execute execution) earlier ≡ Some (Goes (record { node = edge.at.number; place = _; edge = edge.edge })) =
@@ -264,7 +264,7 @@ execute_passes plant states subject mode node context execution earlier before a
           (nodes_after plant mode earlier) runner (nodes_count plant mode earlier) ∙ edge.found)) in
           let was : come_of plant node context waiting (nodes_after plant mode earlier) ≡ one (nat_eq node edge.at.number) =
           ap (λ (c : Context). come_of plant node c waiting (nodes_after plant mode earlier)) same
-          ∙ standing_come plant states subject mode node earlier before execution.context execution.before edge.at.number waiting later.case runner
+          ∙ standing_come plant states task mode node earlier before execution.context execution.before edge.at.number waiting later.case runner
           later.step.stands edge.at.found free in
           let left = one_same edge.at.number node in
           omega arith
@@ -278,15 +278,15 @@ execute_passes plant states subject mode node context execution earlier before a
           omega arith
     ]
 
-serve_passes : (plant : PlantData) (states : List AbsState) (subject : Context) (mode node : ℕ) (context : Context) (call : ServiceCall) (earlier : List Event)
+serve_passes : (plant : PlantData) (states : List AbsState) (task mode node : ℕ) (context : Context) (call : ServiceCall) (earlier : List Event)
     (before after : MachineState) (waiting : List (Option Column)) → IsNodeOf plant node context
-    → IsLater plant states subject mode (Serve call) earlier before after → length waiting ≡ context_count plant.system
+    → IsLater plant states task mode (Serve call) earlier before after → length waiting ≡ context_count plant.system
     → position_of plant.system waiting call.caller ≡ None
     → Passes plant mode node context (Serve call) earlier waiting
-serve_passes plant states subject mode node context call earlier before after waiting own later count free =
-    let all = covers_of plant states subject mode earlier before later.case in
+serve_passes plant states task mode node context call earlier before after waiting own later count free =
+    let all = covers_of plant states task mode earlier before later.case in
     let runner : IsContext plant.system call.caller = running_exists plant.system before call.caller all.room later.step.running in
-    let asks = asks_of plant states subject mode call earlier before after later in
+    let asks = asks_of plant states task mode call earlier before after later in
     let label : label_of plant (Serve call) ≡ Some (labels.Service asks.at.number) = ap (option_map labels.Service) asks.at.found in
     let used = move_used plant mode (labels.Service asks.at.number) call earlier label in
     let out : sum_option (out_count node) (used_by plant mode (Serve call) earlier) ≡ 0 + one (asks.at.number == node) =
@@ -312,7 +312,7 @@ serve_passes plant states subject mode node context call earlier before after wa
           ∙ answered_come plant later.case.of.belongs node call asks.at.number asks.at.found call.reply.ended) in
           let was : come_of plant node context waiting (nodes_after plant mode earlier) ≡ one (nat_eq node asks.at.number) =
           ap (λ (c : Context). come_of plant node c waiting (nodes_after plant mode earlier)) same
-          ∙ standing_come plant states subject mode node earlier before call.caller call.before asks.at.number waiting later.case runner
+          ∙ standing_come plant states task mode node earlier before call.caller call.before asks.at.number waiting later.case runner
           later.step.stands asks.at.found free in
           let left = one_same asks.at.number node in
           omega arith
@@ -325,23 +325,23 @@ serve_passes plant states subject mode node context call earlier before after wa
           omega arith
     ]
 
-step_passes : (plant : PlantData) (states : List AbsState) (subject : Context) (mode node : ℕ) (context : Context) (event : Event) (earlier : List Event)
+step_passes : (plant : PlantData) (states : List AbsState) (task mode node : ℕ) (context : Context) (event : Event) (earlier : List Event)
     (before after : MachineState) (waiting : List (Option Column)) → IsNodeOf plant node context
-    → IsLater plant states subject mode event earlier before after → length waiting ≡ context_count plant.system
+    → IsLater plant states task mode event earlier before after → length waiting ≡ context_count plant.system
     → ((c : Context) → running_after plant mode earlier ≡ Some c → position_of plant.system waiting c ≡ None)
     → Passes plant mode node context event earlier waiting
-step_passes plant states subject mode node context (Arrive arrival) earlier before after waiting own later count ran = omega arith
-step_passes plant states subject mode node context (Take taking) earlier before after waiting own later count ran =
+step_passes plant states task mode node context (Arrive arrival) earlier before after waiting own later count ran = omega arith
+step_passes plant states task mode node context (Take taking) earlier before after waiting own later count ran =
     (let begins = started_come plant node context taking.started waiting (nodes_after plant mode earlier) own.exists
-    (λ d e. who_exists plant later.case.of.belongs taking before after (covers_of plant states subject mode earlier before later.case).room later.step d
+    (λ d e. who_exists plant later.case.of.belongs taking before after (covers_of plant states task mode earlier before later.case).room later.step d
     (sym later.step.started ∙ e)) count (nodes_count plant mode earlier) in omega arith)
-step_passes plant states subject mode node context (Execute execution) earlier before after waiting own later count ran =
-    execute_passes plant states subject mode node context execution earlier before after waiting own later
+step_passes plant states task mode node context (Execute execution) earlier before after waiting own later count ran =
+    execute_passes plant states task mode node context execution earlier before after waiting own later
     (ran execution.context (ap (runs plant.system) (kernel_is plant mode earlier before later.case.of.run) ∙ later.step.running))
-step_passes plant states subject mode node context (Serve call) earlier before after waiting own later count ran =
-    serve_passes plant states subject mode node context call earlier before after waiting own later count
+step_passes plant states task mode node context (Serve call) earlier before after waiting own later count ran =
+    serve_passes plant states task mode node context call earlier before after waiting own later count
     (ran call.caller (ap (runs plant.system) (kernel_is plant mode earlier before later.case.of.run) ∙ later.step.running))
-step_passes plant states subject mode node context (Idle cycles) earlier before after waiting own later count ran = omega arith
+step_passes plant states task mode node context (Idle cycles) earlier before after waiting own later count ran = omega arith
 
 -- ---- Every open window
 
@@ -355,10 +355,10 @@ none_waits : (node : ℕ) (at : Option ℕ) → has_come node (option_map Stands
 none_waits node None = refl
 none_waits node (Some at) = refl
 
-opened_passes : (plant : PlantData) (states : List AbsState) (subject : Context) (mode node : ℕ) (context : Context) (events : List Event) (state : MachineState)
-    (column : Option Column) → IsStart plant states subject mode events column
+opened_passes : (plant : PlantData) (states : List AbsState) (task mode node : ℕ) (context : Context) (events : List Event) (state : MachineState)
+    (column : Option Column) → IsStart plant states task mode events column
     → PassesLess plant mode node context events state (opened_first plant mode column events)
-opened_passes plant states subject mode node context events state column start =
+opened_passes plant states task mode node context events state column start =
     let out : sum_by (out_count node) (option_to_list column) ≡ 0 = start_sum (out_count node) column start.start start.is in
     let come : come_of plant node context (map (λ at. option_map Stands at) (nodes_after plant mode events)) (nodes_after plant mode events) ≡ 0 =
     ap (λ (w : Option Column). has_come node w (position_of plant.system (nodes_after plant mode events) context))
@@ -369,12 +369,12 @@ opened_passes plant states subject mode node context events state column start =
 by_passing : (m l u v was now more less : ℕ) → more ≡ u + m → less ≡ v + l → u + now ≤ v + was → m + was ≤ l → more + now ≤ less
 by_passing m l u v was now more less e f step held = omega arith
 
-stepped_passes : (plant : PlantData) (states : List AbsState) (subject : Context) (mode node : ℕ) (context : Context) (event : Event) (earlier : List Event)
+stepped_passes : (plant : PlantData) (states : List AbsState) (task mode node : ℕ) (context : Context) (event : Event) (earlier : List Event)
     (before after : MachineState) (window : Window) → IsNodeOf plant node context
-    → IsLater plant states subject mode event earlier before after → IsWhole plant subject mode earlier before window
+    → IsLater plant states task mode event earlier before after → IsWhole plant task mode earlier before window
     → PassesLess plant mode node context earlier before window
     → PassesLess plant mode node context (event ∷ earlier) after (stepped plant mode event earlier window)
-stepped_passes plant states subject mode node context event earlier before after window own later was held =
+stepped_passes plant states task mode node context event earlier before after window own later was held =
     by_passing (sum_by (out_count node) window.uses) (sum_by (in_count plant node) window.uses)
     (sum_option (out_count node) (used_by plant mode event earlier)) (sum_option (in_count plant node) (used_by plant mode event earlier))
     (come_of plant node context window.waiting (nodes_after plant mode earlier))
@@ -383,15 +383,15 @@ stepped_passes plant states subject mode node context event earlier before after
     (sum_by (in_count plant node) (option_to_list (used_by plant mode event earlier) ++ window.uses))
     (sum_with (out_count node) (used_by plant mode event earlier) window.uses)
     (sum_with (in_count plant node) (used_by plant mode event earlier) window.uses)
-    (step_passes plant states subject mode node context event earlier before after window.waiting own later was.count was.ran) held
+    (step_passes plant states task mode node context event earlier before after window.waiting own later was.count was.ran) held
 
-ran_passes : (plant : PlantData) (states : List AbsState) (subject : Context) (mode node : ℕ) (context : Context) (events : List Event) (state : MachineState)
+ran_passes : (plant : PlantData) (states : List AbsState) (task mode node : ℕ) (context : Context) (events : List Event) (state : MachineState)
     (window : Window) (runner : Context) → IsNodeOf plant node context → IsContext plant.system runner → length window.waiting ≡ context_count plant.system
-    → AreListed plant states subject mode events state window
+    → AreListed plant states task mode events state window
     → PassesLess plant mode node context events state window → PassesLess plant mode node context events state (run_in plant (Some runner) window)
-ran_passes plant states subject mode node context events state window runner own exists count are held =
+ran_passes plant states task mode node context events state window runner own exists count are held =
     let waits = position_of plant.system window.waiting runner in
-    let out = run_in_same plant states subject mode events state window runner (out_count node) (out_no_visit node) exists are in
+    let out = run_in_same plant states task mode events state window runner (out_count node) (out_no_visit node) exists are in
     let come = sum_with (in_count plant node) waits window.uses in
     elim (contexts_apart plant.system context runner own.exists exists) [
       | inl same ↦
@@ -403,7 +403,7 @@ ran_passes plant states subject mode node context events state window runner own
           let was : come_of plant node context window.waiting (nodes_after plant mode events)
           ≡ has_come node waits (position_of plant.system (nodes_after plant mode events) runner) =
           ap (λ (c : Context). come_of plant node c window.waiting (nodes_after plant mode events)) same in
-          let comes = used_comes plant states subject node runner waits (position_of plant.system (nodes_after plant mode events) runner)
+          let comes = used_comes plant states task node runner waits (position_of plant.system (nodes_after plant mode events) runner)
           (are.waiting runner exists) in
           omega arith
       | inr other ↦
@@ -414,37 +414,37 @@ ran_passes plant states subject mode node context events state window runner own
           omega arith
     ]
 
-passes_less : (plant : PlantData) (states : List AbsState) (subject : Context) (mode node : ℕ) (context : Context) → IsNodeOf plant node context
-    → InductsByParts plant states subject mode (PassesLess plant mode node context)
-passes_less plant states subject mode node context own = record {
-  opens = λ events state column case start. opened_passes plant states subject mode node context events state column start;
+passes_less : (plant : PlantData) (states : List AbsState) (task mode node : ℕ) (context : Context) → IsNodeOf plant node context
+    → InductsByParts plant states task mode (PassesLess plant mode node context)
+passes_less plant states task mode node context own = record {
+  opens = λ events state column case start. opened_passes plant states task mode node context events state column start;
   steps = λ event earlier before after window later new on was are held.
-      stepped_passes plant states subject mode node context event earlier before after window own later was held;
+      stepped_passes plant states task mode node context event earlier before after window own later was held;
   ran = λ events state window runner case exists e count are held.
-      ran_passes plant states subject mode node context events state window runner own exists count are held;
+      ran_passes plant states task mode node context events state window runner own exists count are held;
 }
 
-while_passing : (plant : PlantData) (states : List AbsState) (subject : Context) (mode node : ℕ) (context : Context) (events : List Event) (state : MachineState)
-    (window : Window) → IsNodeOf plant node context → IsDeclaredCase plant states subject mode events state
-    → open_window plant subject mode events ≡ Some window → PassesLess plant mode node context events state window
-while_passing plant states subject mode node context events state window own case e =
-    of_open plant states subject mode (PassesLess plant mode node context)
-    (by_parts plant states subject mode (PassesLess plant mode node context) (passes_less plant states subject mode node context own)) events state window case e
+while_passing : (plant : PlantData) (states : List AbsState) (task mode node : ℕ) (context : Context) (events : List Event) (state : MachineState)
+    (window : Window) → IsNodeOf plant node context → IsDeclaredCase plant states task mode events state
+    → open_window plant task mode events ≡ Some window → PassesLess plant mode node context events state window
+while_passing plant states task mode node context events state window own case e =
+    of_open plant states task mode (PassesLess plant mode node context)
+    (by_parts plant states task mode (PassesLess plant mode node context) (passes_less plant states task mode node context own)) events state window case e
 
 -- ---- The law
 
 last_passing : (m l u v was now more less : ℕ) → more ≡ u + m → less ≡ v + l → u + now ≤ v + was → m + was ≤ l → more ≤ less + 0
 last_passing m l u v was now more less e f step held = omega arith
 
-passing_uses : (plant : PlantData) (states : List AbsState) (subject : Context) (mode node : ℕ) (context : Context) → IsNodeOf plant node context
-    → OfUses plant states subject mode (λ events state uses since. sum_by (out_count node) uses ≤ sum_by (in_count plant node) uses + 0)
-passing_uses plant states subject mode node context own = record {
+passing_uses : (plant : PlantData) (states : List AbsState) (task mode node : ℕ) (context : Context) → IsNodeOf plant node context
+    → OfUses plant states task mode (λ events state uses since. sum_by (out_count node) uses ≤ sum_by (in_count plant node) uses + 0)
+passing_uses plant states task mode node context own = record {
   while_it_is_open = λ events state window since case is_open active.
       (let held : sum_by (out_count node) window.uses + come_of plant node context window.waiting (nodes_after plant mode events)
       ≤ sum_by (in_count plant node) window.uses =
-      while_passing plant states subject mode node context events state window own case is_open in omega arith);
+      while_passing plant states task mode node context events state window own case is_open in omega arith);
   closes = λ event earlier before after window since later ends is_open active.
-      let was = is_whole plant states subject mode earlier before window later.case is_open in
+      let was = is_whole plant states task mode earlier before window later.case is_open in
       last_passing (sum_by (out_count node) window.uses) (sum_by (in_count plant node) window.uses)
       (sum_option (out_count node) (used_by plant mode event earlier)) (sum_option (in_count plant node) (used_by plant mode event earlier))
       (come_of plant node context window.waiting (nodes_after plant mode earlier))
@@ -453,8 +453,8 @@ passing_uses plant states subject mode node context own = record {
       (sum_by (in_count plant node) (option_to_list (used_by plant mode event earlier) ++ window.uses))
       (sum_with (out_count node) (used_by plant mode event earlier) window.uses)
       (sum_with (in_count plant node) (used_by plant mode event earlier) window.uses)
-      (step_passes plant states subject mode node context event earlier before after window.waiting own later was.count was.ran)
-      (while_passing plant states subject mode node context earlier before window own later.case is_open);
+      (step_passes plant states task mode node context event earlier before after window.waiting own later was.count was.ran)
+      (while_passing plant states task mode node context earlier before window own later.case is_open);
 }
 
 -- each node is of a context
@@ -502,9 +502,9 @@ range_below count n has =
     omega arith
 
 pub meets_passing : MeetsPassing
-meets_passing plant states subject mode events state uses since case used =
+meets_passing plant states task mode events state uses since case used =
     all_of_members (Meets uses) (passes plant) (range_with_len 0 (length plant.flow.nodes)) (λ node has.
     let own = own_node plant case.of.belongs node (range_below (length plant.flow.nodes) node has) in
     meets_by (passes plant node).factor (out_count node) (in_count plant node) 0 uses (passes_is plant node)
-    (of_used plant states subject mode (λ events state uses since. sum_by (out_count node) uses ≤ sum_by (in_count plant node) uses + 0)
-    (passing_uses plant states subject mode node own.0 own.1) events state uses since case used))
+    (of_used plant states task mode (λ events state uses since. sum_by (out_count node) uses ≤ sum_by (in_count plant node) uses + 0)
+    (passing_uses plant states task mode node own.0 own.1) events state uses since case used))

@@ -6,7 +6,6 @@ use Rattle.std.proofs.lemmas.List.{length-map, length-set, length-replicate}
 use Rattle.std.proofs.lemmas.List.Elements.{All-head, All-tail, All-append, All-nil, All-cons}
 use Rattle.std.proofs.lemmas.List.Sums.{sum_by-cons}
 use Rattle.std.proofs.lemmas.Option.{none-some, same_Some, slice_get-get_or}
-use Rattle.osek_kernel.specs.declared.context.Context.{Context}
 use Rattle.osek_machine.specs.Events.{Event, duration}
 use Rattle.osek_machine.specs.State.{MachineState}
 use Rattle.wcet_atomic_blocks.specs.Plants.{PlantData}
@@ -15,7 +14,7 @@ use Rattle.whole_rows.specs.Rows.{IsShaped, product_sum, cost_of}
 use Rattle.whole_rows.specs.Greatest.{MeetsRows}
 use Rattle.row_build.specs.Columns.{Column, columns, cost}
 use Rattle.row_build.specs.Families.{Row, rows, one_start, leaving, passing, standing, beginning, going_round, arriving}
-use Rattle.row_build.specs.Rows.{rows_for}
+use Rattle.row_build.specs.Rows.{rows_of}
 use Rattle.activation_windows.specs.Counted.{IsDeclaredCase, IsUsed, Meets, left_side}
 use Rattle.activation_windows.specs.Bounds.{AreCounts, UsesArePoints}
 use Rattle.activation_windows.proofs.ArrivingRows.{meets_arriving}
@@ -89,11 +88,11 @@ meets_each all uses counts are (first ∷ family) meets zero below =
 meets_each all uses counts are (first ∷ family) meets (suc row) below =
     meets_each all uses counts are family (All-tail (Meets uses) first family meets) row (omega arith)
 
-pub meets_rows : (plant : PlantData) (states : List AbsState) (subject : Context) (uses : List Column) (counts : List ℕ)
-    → AreCounts (columns plant states subject) uses counts → All (Meets uses) (rows plant states subject)
-    → MeetsRows (rows_for plant states subject) counts
-meets_rows plant states subject uses counts are meets row below =
-    meets_each (columns plant states subject) uses counts are (rows plant states subject) meets row below
+pub meets_rows : (plant : PlantData) (states : List AbsState) (task : ℕ) (uses : List Column) (counts : List ℕ)
+    → AreCounts (columns plant states task) uses counts → All (Meets uses) (rows plant states task)
+    → MeetsRows (rows_of plant states task) counts
+meets_rows plant states task uses counts are meets row below =
+    meets_each (columns plant states task) uses counts are (rows plant states task) meets row below
 
 -- ---- Costs
 
@@ -102,62 +101,62 @@ costs_of_uses plant [] = refl
 costs_of_uses plant (column ∷ uses) =
     rw (sum_by-cons (cost plant) column uses) (rw (costs_of_uses plant uses) refl)
 
-pub cost_is : (plant : PlantData) (states : List AbsState) (subject : Context) (uses : List Column) (counts : List ℕ)
-    → AreCounts (columns plant states subject) uses counts → cost_of (rows_for plant states subject) counts ≡ pos (sum_by (cost plant) uses)
-cost_is plant states subject uses counts are =
-    sum_over_uses (λ column. pos (cost plant column)) (columns plant states subject) uses counts are ∙ costs_of_uses plant uses
+pub cost_is : (plant : PlantData) (states : List AbsState) (task : ℕ) (uses : List Column) (counts : List ℕ)
+    → AreCounts (columns plant states task) uses counts → cost_of (rows_of plant states task) counts ≡ pos (sum_by (cost plant) uses)
+cost_is plant states task uses counts are =
+    sum_over_uses (λ column. pos (cost plant column)) (columns plant states task) uses counts are ∙ costs_of_uses plant uses
 
 -- ---- The shape of the rows
 
-pub rows_are_shaped : (plant : PlantData) (states : List AbsState) (subject : Context) → IsShaped (rows_for plant states subject)
-rows_are_shaped plant states subject =
-    record { rows_fit = all_long (rows plant states subject); rights_fit = length-map (rows plant states subject) _ ∙ sym (length-map (rows plant states subject) _) }
+pub rows_are_shaped : (plant : PlantData) (states : List AbsState) (task : ℕ) → IsShaped (rows_of plant states task)
+rows_are_shaped plant states task =
+    record { rows_fit = all_long (rows plant states task); rights_fit = length-map (rows plant states task) _ ∙ sym (length-map (rows plant states task) _) }
   where
     is_long : List ℤ → Type 0
-    is_long row = length row ≡ length (map (λ column. pos (cost plant column)) (columns plant states subject))
+    is_long row = length row ≡ length (map (λ column. pos (cost plant column)) (columns plant states task))
 
-    all_long : (family : List Row) → All is_long (map (λ r. map r.factor (columns plant states subject)) family)
+    all_long : (family : List Row) → All is_long (map (λ r. map r.factor (columns plant states task)) family)
     all_long [] = All-nil is_long
-    all_long (first ∷ family) = All-cons is_long (map first.factor (columns plant states subject)) (map (λ r. map r.factor (columns plant states subject)) family)
-        (length-map (columns plant states subject) first.factor ∙ sym (length-map (columns plant states subject) (λ column. pos (cost plant column))))
+    all_long (first ∷ family) = All-cons is_long (map first.factor (columns plant states task)) (map (λ r. map r.factor (columns plant states task)) family)
+        (length-map (columns plant states task) first.factor ∙ sym (length-map (columns plant states task) (λ column. pos (cost plant column))))
         (all_long family)
 
-pub counts_fit : (plant : PlantData) (states : List AbsState) (subject : Context) (uses : List Column) (counts : List ℕ)
-    → AreCounts (columns plant states subject) uses counts → length counts ≡ length (rows_for plant states subject).costs
-counts_fit plant states subject uses counts are =
-    counts_long (columns plant states subject) uses counts are ∙ sym (length-map (columns plant states subject) (λ column. pos (cost plant column)))
+pub counts_fit : (plant : PlantData) (states : List AbsState) (task : ℕ) (uses : List Column) (counts : List ℕ)
+    → AreCounts (columns plant states task) uses counts → length counts ≡ length (rows_of plant states task).costs
+counts_fit plant states task uses counts are =
+    counts_long (columns plant states task) uses counts are ∙ sym (length-map (columns plant states task) (λ column. pos (cost plant column)))
 
 -- ---- All families are met
 
 -- All rows are met.
-pub all_are_met : (plant : PlantData) (states : List AbsState) (subject : Context) (mode : ℕ) (events : List Event) (state : MachineState)
-    (uses : List Column) (since : ℕ) → IsDeclaredCase plant states subject mode events state → IsUsed plant subject mode events uses since
-    → All (Meets uses) (rows plant states subject)
-all_are_met plant states subject mode events state uses since case used =
-    both (one_start ∷ leaving plant states subject) _
-    (both (one_start ∷ []) (leaving plant states subject)
-    (meets_first plant states subject mode events state uses since case used) (meets_leaving plant states subject mode events state uses since case used))
-    (both (passing plant) _ (meets_passing plant states subject mode events state uses since case used)
-    (both (standing plant states subject) _ (meets_standing plant states subject mode events state uses since case used)
-    (both (beginning plant subject) _ (meets_beginning plant states subject mode events state uses since case used)
-    (both (going_round plant) (arriving plant) (meets_going_round plant states subject mode events state uses since case used)
-    (meets_arriving plant states subject mode events state uses since case used)))))
+pub all_are_met : (plant : PlantData) (states : List AbsState) (task mode : ℕ) (events : List Event) (state : MachineState)
+    (uses : List Column) (since : ℕ) → IsDeclaredCase plant states task mode events state → IsUsed plant task mode events uses since
+    → All (Meets uses) (rows plant states task)
+all_are_met plant states task mode events state uses since case used =
+    both (one_start ∷ leaving plant states task) _
+    (both (one_start ∷ []) (leaving plant states task)
+    (meets_first plant states task mode events state uses since case used) (meets_leaving plant states task mode events state uses since case used))
+    (both (passing plant) _ (meets_passing plant states task mode events state uses since case used)
+    (both (standing plant states task) _ (meets_standing plant states task mode events state uses since case used)
+    (both (beginning plant task) _ (meets_beginning plant states task mode events state uses since case used)
+    (both (going_round plant) (arriving plant) (meets_going_round plant states task mode events state uses since case used)
+    (meets_arriving plant states task mode events state uses since case used)))))
   where
     both : (xs ys : List Row) → All (Meets uses) xs → All (Meets uses) ys → All (Meets uses) (xs ++ ys)
     both xs ys first second = All-append (Meets uses) xs ys first second
 
 -- So what a window uses is a point of the rows.
 pub uses_are_points : UsesArePoints
-uses_are_points plant states subject mode events state uses since case used =
-    let counts = counts_of (columns plant states subject) uses (uses_are_columns plant states subject mode events state uses since case used) in
+uses_are_points plant states task mode events state uses since case used =
+    let counts = counts_of (columns plant states task) uses (uses_are_columns plant states task mode events state uses since case used) in
     record {
       counts = counts.0;
       are = counts.1;
-      meets = meets_rows plant states subject uses counts.0 counts.1
-          (all_are_met plant states subject mode events state uses since case used);
+      meets = meets_rows plant states task uses counts.0 counts.1
+          (all_are_met plant states task mode events state uses since case used);
       covers =
-          let most : duration events - since ≤ sum_by (cost plant) uses = uses_cover_time plant states subject mode events state uses since case used in
-          let costs = cost_is plant states subject uses counts.0 counts.1 in
+          let most : duration events - since ≤ sum_by (cost plant) uses = uses_cover_time plant states task mode events state uses since case used in
+          let costs = cost_is plant states task uses counts.0 counts.1 in
           subst (λ (sum : ℤ). pos (duration events - since) ≤ℤ sum) (sym costs) (at_most most);
     }
   where

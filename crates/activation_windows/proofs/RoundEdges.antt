@@ -46,11 +46,11 @@ few_by [] bound n all = omega arith
 few_by (lap ∷ laps) bound zero all = all.0
 few_by (lap ∷ laps) bound (suc n) all = few_by laps bound n all.1
 
-pub few_laps : (plant : PlantData) (states : List AbsState) (subject : Context) (mode : ℕ) (head : Node) (declared : ℕ) (l : Loop) (own : Context) (event : Event)
+pub few_laps : (plant : PlantData) (states : List AbsState) (task mode : ℕ) (head : Node) (declared : ℕ) (l : Loop) (own : Context) (event : Event)
     (earlier : List Event) (before after : MachineState)
-    → IsInstance plant head declared l own → IsLater plant states subject mode event earlier before after
+    → IsInstance plant head declared l own → IsLater plant states task mode event earlier before after
     → (rest : List ℕ) → laps_at (laps_of plant.image l own (event ∷ earlier)) rest ≤ l.bound
-few_laps plant states subject mode head declared l own event earlier before after is later rest =
+few_laps plant states task mode head declared l own event earlier before after is later rest =
     few_by (laps_of plant.image l own (event ∷ earlier)) l.bound (length rest)
     (at_slice (λ (d : Loop). AllByRecursion (λ laps. laps ≤ d.bound) (laps_of plant.image d own (event ∷ earlier))) plant.timing.loops declared l
     (All-from_recursion (λ (d : Loop). AllByRecursion (λ laps. laps ≤ d.bound) (laps_of plant.image d own (event ∷ earlier))) plant.timing.loops
@@ -82,9 +82,9 @@ round_as l from from' to to' b b' a a' laps laps' laps'' back fs ts bs ats ls ro
 
 -- ---- The loop's own context executes an instruction
 
-own_edge : (plant : PlantData) (states : List AbsState) (subject : Context) (mode : ℕ) (head : Node) (declared : ℕ) (l : Loop) (own : Context) (execution : Execution)
+own_edge : (plant : PlantData) (states : List AbsState) (task mode : ℕ) (head : Node) (declared : ℕ) (l : Loop) (own : Context) (execution : Execution)
     (earlier : List Event) (before after : MachineState) (uses : List Column)
-    → IsInstance plant head declared l own → IsLater plant states subject mode (Execute execution) earlier before after
+    → IsInstance plant head declared l own → IsLater plant states task mode (Execute execution) earlier before after
     → same_context own execution.context ≡ true → (takes : TakesEdge plant execution) → Turns plant execution takes
     → Circles l head.sites l.bound (sum_by (backs_count (its plant head declared l)) uses) (sum_by (entries_count (its plant head declared l)) uses)
     (laps_of plant.image l own earlier) (Some execution.before) 0
@@ -93,7 +93,7 @@ own_edge : (plant : PlantData) (states : List AbsState) (subject : Context) (mod
     (sum_by (backs_count (its plant head declared l)) (option_to_list (used_by plant mode (Execute execution) earlier) ++ uses))
     (sum_by (entries_count (its plant head declared l)) (option_to_list (used_by plant mode (Execute execution) earlier) ++ uses))
     (laps_of plant.image l own (Execute execution ∷ earlier)) (Some execution.after) 0
-own_edge plant states subject mode head declared l own execution earlier before after uses is later mine takes turns circles true enters =
+own_edge plant states task mode head declared l own execution earlier before after uses is later mine takes turns circles true enters =
     let instance = its plant head declared l in
     let along = along_in plant execution takes in
     let backs = goes_sum plant mode execution earlier takes (backs_count instance) uses in
@@ -106,7 +106,7 @@ own_edge plant states subject mode head declared l own execution earlier before 
     (circles_enter l head.sites l.bound (sum_by (backs_count instance) uses) (sum_by (entries_count instance) uses)
     (entries_count instance (Goes along)) (laps_of plant.image l own earlier) (laps_of plant.image l own (Execute execution ∷ earlier))
     (Some execution.before) (Some execution.after) 0 (omega arith) circles)
-own_edge plant states subject mode head declared l own execution earlier before after uses is later mine takes turns circles false enters =
+own_edge plant states task mode head declared l own execution earlier before after uses is later mine takes turns circles false enters =
     let step : Executes plant.image plant.system execution before after = later.step in
     let instance = its plant head declared l in
     let along = along_in plant execution takes in
@@ -118,7 +118,7 @@ own_edge plant states subject mode head declared l own execution earlier before 
     let here : (head.context == takes.at.node.context) ≡ true = eq-eqb head.context takes.at.node.context own_place in
     let there : (head.context == takes.next.context) ≡ true = eq-eqb head.context takes.next.context (own_place ∙ sym takes.context_is) in
     let count : length laps ≡ length execution.before.calls + 1 =
-    has_laps plant states subject mode l earlier before later.case own execution.before is.exists (ap (standing_of plant.system before) (sym who) ∙ step.stands) in
+    has_laps plant states task mode l earlier before later.case own execution.before is.exists (ap (standing_of plant.system before) (sym who) ∙ step.stands) in
     let calls = ap length takes.at.stands.calls_are in
     let laps_are : turned_by l turns.turn takes.at.node takes.next laps ≡ laps_of plant.image l own (Execute execution ∷ earlier) =
     sym (ap (λ b. cond b (turned l (turn_at (insn_at plant.image) execution.before.place) execution laps) laps) mine ∙ turns.laps_are l laps) in
@@ -136,21 +136,21 @@ own_edge plant states subject mode head declared l own execution earlier before 
     (circles_round l head.sites l.bound (sum_by (backs_count instance) uses) (sum_by (entries_count instance) uses) laps
     (laps_of plant.image l own (Execute execution ∷ earlier)) execution.before execution.after
     (is_back head l takes.at.node takes.edge.kind takes.next) 0 goes
-    (few_laps plant states subject mode head declared l own (Execute execution) earlier before after is later) circles))
+    (few_laps plant states task mode head declared l own (Execute execution) earlier before after is later) circles))
 
-pub execute_rounds : (plant : PlantData) (states : List AbsState) (subject : Context) (mode : ℕ) (head : Node) (declared : ℕ) (l : Loop) (own : Context)
+pub execute_rounds : (plant : PlantData) (states : List AbsState) (task mode : ℕ) (head : Node) (declared : ℕ) (l : Loop) (own : Context)
     (execution : Execution) (earlier : List Event) (before after : MachineState) (uses : List Column) (waiting : List (Option Column))
-    → IsInstance plant head declared l own → IsLater plant states subject mode (Execute execution) earlier before after
+    → IsInstance plant head declared l own → IsLater plant states task mode (Execute execution) earlier before after
     → position_of plant.system waiting execution.context ≡ None
     → Rounds plant head declared l own earlier before uses waiting → (mine : Bool) → same_context own execution.context ≡ mine
     → Rounds plant head declared l own (Execute execution ∷ earlier) after
     (option_to_list (used_by plant mode (Execute execution) earlier) ++ uses) waiting
-execute_rounds plant states subject mode head declared l own execution earlier before after uses waiting is later ran rounds true mine =
+execute_rounds plant states task mode head declared l own execution earlier before after uses waiting is later ran rounds true mine =
     let step : Executes plant.image plant.system execution before after = later.step in
-    let all = covers_of plant states subject mode earlier before later.case in
+    let all = covers_of plant states task mode earlier before later.case in
     let instance = its plant head declared l in
-    let takes = edge_in plant states subject mode execution earlier before after later in
-    let turns = turns_in plant states subject mode execution earlier before after later takes in
+    let takes = edge_in plant states task mode execution earlier before after later in
+    let turns = turns_in plant states task mode execution earlier before after later takes in
     let who : execution.context ≡ own = same_Some execution.context own (this_is own (Some execution.context) mine) in
     let stood : standing_of plant.system before own ≡ Some execution.before = ap (standing_of plant.system before) (sym who) ∙ step.stands in
     let stands : standing_of plant.system after own ≡ Some execution.after =
@@ -161,14 +161,14 @@ execute_rounds plant states subject mode head declared l own execution earlier b
     let gone : sum_option (entries_count instance) (position_of plant.system waiting own) ≡ 0 =
     ap (sum_option (entries_count instance)) (ap (position_of plant.system waiting) (sym who) ∙ ran) in
     circles_as l head.sites l.bound _ _ _ _ _ _ _ _ _ _ refl refl refl (sym stands) (sym gone)
-    (own_edge plant states subject mode head declared l own execution earlier before after uses is later mine takes turns
+    (own_edge plant states task mode head declared l own execution earlier before after uses is later mine takes turns
     (circles_as l head.sites l.bound _ _ _ _ _ _ _ _ _ _ refl refl refl stood gone rounds)
     (is_entering head l takes.at.node takes.edge.kind takes.next) refl)
-execute_rounds plant states subject mode head declared l own execution earlier before after uses waiting is later ran rounds false mine =
+execute_rounds plant states task mode head declared l own execution earlier before after uses waiting is later ran rounds false mine =
     let step : Executes plant.image plant.system execution before after = later.step in
-    let all = covers_of plant states subject mode earlier before later.case in
+    let all = covers_of plant states task mode earlier before later.case in
     let instance = its plant head declared l in
-    let takes = edge_in plant states subject mode execution earlier before after later in
+    let takes = edge_in plant states task mode execution earlier before after later in
     let along = along_in plant execution takes in
     let there : IsContext plant.system execution.context = running_exists plant.system before execution.context all.room step.running in
     let laps = laps_of plant.image l own earlier in

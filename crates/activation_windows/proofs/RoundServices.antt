@@ -50,16 +50,16 @@ use Rattle.activation_windows.proofs.Sums.{one, sum_option}
 
 -- ---- A source is taken
 
-pub take_rounds : (plant : PlantData) (states : List AbsState) (subject : Context) (mode : ℕ) (head : Node) (declared : ℕ) (l : Loop) (own : Context) (taking : Taking)
+pub take_rounds : (plant : PlantData) (states : List AbsState) (task mode : ℕ) (head : Node) (declared : ℕ) (l : Loop) (own : Context) (taking : Taking)
     (earlier : List Event) (before after : MachineState) (uses : List Column) (waiting : List (Option Column))
-    → IsInstance plant head declared l own → IsLater plant states subject mode (Take taking) earlier before after
+    → IsInstance plant head declared l own → IsLater plant states task mode (Take taking) earlier before after
     → length waiting ≡ context_count plant.system
     → Rounds plant head declared l own earlier before uses waiting → (starts : Bool) → is_this own taking.started ≡ starts
     → Rounds plant head declared l own (Take taking ∷ earlier) after
     (option_to_list (used_by plant mode (Take taking) earlier) ++ uses) (waiting_after plant (Take taking) waiting)
-take_rounds plant states subject mode head declared l own taking earlier before after uses waiting is later count rounds true starts =
+take_rounds plant states task mode head declared l own taking earlier before after uses waiting is later count rounds true starts =
     let step : Takes plant.image plant.system taking before after = later.step in
-    let all = covers_of plant states subject mode earlier before later.case in
+    let all = covers_of plant states task mode earlier before later.case in
     let instance = its plant head declared l in
     let nothing = moves_count_nothing instance (λ label. going_by plant mode label (Take taking) earlier) (Some (labels.Take taking.source)) in
     let entry = at_entry plant.image plant.system taking.registers in
@@ -72,9 +72,9 @@ take_rounds plant states subject mode head declared l own taking earlier before 
     (unused (entries_count instance) (used_by plant mode (Take taking) earlier) uses nothing.1) refl (sym stands)
     (ap (sum_option (entries_count instance)) (sym (started_here plant.system (entered plant) taking.started own waiting is.exists count starts)))
     (start_rounds plant later.case.of.belongs head declared l own is taking.registers _ _ (laps_of plant.image l own (Take taking ∷ earlier)) rounds.most)
-take_rounds plant states subject mode head declared l own taking earlier before after uses waiting is later count rounds false starts =
+take_rounds plant states task mode head declared l own taking earlier before after uses waiting is later count rounds false starts =
     let step : Takes plant.image plant.system taking before after = later.step in
-    let all = covers_of plant states subject mode earlier before later.case in
+    let all = covers_of plant states task mode earlier before later.case in
     let instance = its plant head declared l in
     let nothing = moves_count_nothing instance (λ label. going_by plant mode label (Take taking) earlier) (Some (labels.Take taking.source)) in
     let entry = at_entry plant.image plant.system taking.registers in
@@ -143,9 +143,9 @@ visit_counts plant head declared l call node target source next behind_it at sou
 
 -- ---- The loop's own context calls a service and goes on
 
-goes_on_by : (plant : PlantData) (states : List AbsState) (subject : Context) (mode : ℕ) (head : Node) (declared : ℕ) (l : Loop) (own : Context) (call : ServiceCall)
+goes_on_by : (plant : PlantData) (states : List AbsState) (task mode : ℕ) (head : Node) (declared : ℕ) (l : Loop) (own : Context) (call : ServiceCall)
     (earlier : List Event) (before after : MachineState) (backs entries : ℕ) (next : Standing) (source target : Node) (visit : ℕ)
-    → IsInstance plant head declared l own → IsLater plant states subject mode (Serve call) earlier before after
+    → IsInstance plant head declared l own → IsLater plant states task mode (Serve call) earlier before after
     → next.place ≡ following call.before.place → next.calls ≡ call.before.calls
     → call.before.place ≡ source.address → next.place ≡ target.address → next.calls ≡ target.sites → (head.context == target.context) ≡ true
     → moved_on l call.before.place (following call.before.place) (laps_of plant.image l own earlier) ≡ laps_of plant.image l own (Serve call ∷ earlier)
@@ -153,11 +153,11 @@ goes_on_by : (plant : PlantData) (states : List AbsState) (subject : Context) (m
     → Circles l head.sites l.bound backs entries (laps_of plant.image l own earlier) (Some call.before) 0
     → (enters : Bool) → (is_inside head l target && not (in_range l source.address)) ≡ enters → (enters ≡ true → visit ≡ 1)
     → Circles l head.sites l.bound backs entries (laps_of plant.image l own (Serve call ∷ earlier)) (Some next) visit
-goes_on_by plant states subject mode head declared l own call earlier before after backs entries next source target visit is later place calls from to sites there
+goes_on_by plant states task mode head declared l own call earlier before after backs entries next source target visit is later place calls from to sites there
     laps_are count circles true passes counts =
     circles_fresh l head.sites l.bound backs entries _ next visit circles.most
     (λ rest string lies none. absurd (let one_visit = counts refl in omega arith))
-goes_on_by plant states subject mode head declared l own call earlier before after backs entries next source target visit is later place calls from to sites there
+goes_on_by plant states task mode head declared l own call earlier before after backs entries next source target visit is later place calls from to sites there
     laps_are count circles false passes counts =
     let laps = laps_of plant.image l own earlier in
     let outside = (λ (string : is_string (beyond head.sites call.before.calls) ≡ true) (far : in_range l call.before.place ≡ false).
@@ -167,7 +167,7 @@ goes_on_by plant states subject mode head declared l own call earlier before aft
     circles_as l head.sites l.bound _ _ _ _ _ _ _ _ _ _ (omega arith) refl laps_are refl refl
     (circles_round l head.sites l.bound backs entries laps (moved_on l call.before.place (following call.before.place) laps) call.before next false visit
     (round_to round) (λ rest. subst (λ (ns : List ℕ). laps_at ns rest ≤ l.bound) (sym laps_are)
-    (few_laps plant states subject mode head declared l own (Serve call) earlier before after is later rest)) circles)
+    (few_laps plant states task mode head declared l own (Serve call) earlier before after is later rest)) circles)
   where
     stays_outside : is_string (beyond head.sites call.before.calls) ≡ true → in_range l call.before.place ≡ false
         → (inside : Bool) → in_range l (following call.before.place) ≡ inside → inside ≡ false
@@ -191,43 +191,43 @@ goes_on_by plant states subject mode head declared l own call earlier before aft
         (laps_of plant.image l own earlier) (moved_on l call.before.place (following call.before.place) (laps_of plant.image l own earlier)) false)
         (sym calls) round)
 
-goes_on_rounds : (plant : PlantData) (states : List AbsState) (subject : Context) (mode : ℕ) (head : Node) (declared : ℕ) (l : Loop) (own : Context) (call : ServiceCall)
+goes_on_rounds : (plant : PlantData) (states : List AbsState) (task mode : ℕ) (head : Node) (declared : ℕ) (l : Loop) (own : Context) (call : ServiceCall)
     (earlier : List Event) (before after : MachineState) (backs entries : ℕ)
-    → IsInstance plant head declared l own → IsLater plant states subject mode (Serve call) earlier before after
+    → IsInstance plant head declared l own → IsLater plant states task mode (Serve call) earlier before after
     → call.caller ≡ own → call.reply.ended ≡ None
     → moved_on l call.before.place (following call.before.place) (laps_of plant.image l own earlier) ≡ laps_of plant.image l own (Serve call ∷ earlier)
     → standing_of plant.system after own ≡ Some (gone_on (served_by plant.system call before).reply.code call.before)
     → Circles l head.sites l.bound backs entries (laps_of plant.image l own earlier) (Some call.before) 0
     → Circles l head.sites l.bound backs entries (laps_of plant.image l own (Serve call ∷ earlier))
     (Some (gone_on (served_by plant.system call before).reply.code call.before)) (sum_option (entries_count (its plant head declared l)) (behind plant call))
-goes_on_rounds plant states subject mode head declared l own call earlier before after backs entries is later who goes laps_are stands circles =
+goes_on_rounds plant states task mode head declared l own call earlier before after backs entries is later who goes laps_are stands circles =
     let step : Serves plant.image plant.system call before after = later.step in
     let next = gone_on (served_by plant.system call before).reply.code call.before in
-    let asks = asks_in plant states subject mode call earlier before after later in
+    let asks = asks_in plant states task mode call earlier before after later in
     let clean : (served_by plant.system call before).reply.misuse ≡ false =
-    ap (λ (r : Reply). r.misuse) (sym step.replied) ∙ (step_of plant states subject mode (Serve call) earlier before after later).1 in
+    ap (λ (r : Reply). r.misuse) (sym step.replied) ∙ (step_of plant states task mode (Serve call) earlier before after later).1 in
     let stays : (served_by plant.system call before).reply.ended ≡ None = ap (λ (r : Reply). r.ended) (sym step.replied) ∙ goes in
     let to = goes_to_successor plant later.case.of.belongs call before after step asks clean stays in
     let behind_it = behind_node plant later.case.of.belongs asks.at.number to.0 to.1 in
-    let at = at_node_of plant states subject mode (Serve call ∷ earlier) after own next later.whole is.exists stands in
+    let at = at_node_of plant states task mode (Serve call ∷ earlier) after own next later.whole is.exists stands in
     let same : at.number ≡ to.0 = same_Some at.number to.0 (sym at.found ∙ (ap (λ (c : Context). node_of plant c next) (sym who) ∙ to.2)) in
     let context : (head.context == at.node.context) ≡ true = eq-eqb head.context at.node.context (is.place ∙ sym at.context_is) in
-    goes_on_by plant states subject mode head declared l own call earlier before after backs entries next asks.at.node at.node
+    goes_on_by plant states task mode head declared l own call earlier before after backs entries next asks.at.node at.node
     (sum_option (entries_count (its plant head declared l)) (behind plant call)) is later refl refl asks.at.stands.place_is at.stands.place_is
     at.stands.calls_are context laps_are
-    (has_laps plant states subject mode l earlier before later.case own call.before is.exists (ap (standing_of plant.system before) (sym who) ∙ step.stands))
+    (has_laps plant states task mode l earlier before later.case own call.before is.exists (ap (standing_of plant.system before) (sym who) ∙ step.stands))
     circles (is_inside head l at.node && not (in_range l asks.at.node.address)) refl
     (visit_counts plant head declared l call asks.at.number to.0 asks.at.node at.node behind_it (ap (option_and_then (block_behind plant)) asks.at.found)
     asks.at.listed (ap (slice_get plant.flow.nodes) (sym same) ∙ at.listed))
 
 -- ---- Any service
 
-serve_after : (plant : PlantData) (states : List AbsState) (subject : Context) (mode : ℕ) (call : ServiceCall) (earlier : List Event) (before after : MachineState)
-    → IsLater plant states subject mode (Serve call) earlier before after → (c : Context)
+serve_after : (plant : PlantData) (states : List AbsState) (task mode : ℕ) (call : ServiceCall) (earlier : List Event) (before after : MachineState)
+    → IsLater plant states task mode (Serve call) earlier before after → (c : Context)
     → standing_of plant.system after c ≡ position_of plant.system
     (started plant.system (at_entry plant.image plant.system call.registers) (option_map contexts.Task call.reply.activated)
     (gone_standings plant call before)) c
-serve_after plant states subject mode call earlier before after later c =
+serve_after plant states task mode call earlier before after later c =
     let step : Serves plant.image plant.system call before after = later.step in
     ap (λ (s : MachineState). standing_of plant.system s c) step.becomes
     ∙ ap (λ (r : Reply). position_of plant.system (answered plant.system (at_entry plant.image plant.system call.registers) call.caller
@@ -238,9 +238,9 @@ abbrev gone_waiting : PlantData → ServiceCall → List (Option Column) → Lis
 gone_waiting plant call waiting = placed plant.system call.caller (cond (is_some call.reply.ended) None (behind plant call)) waiting
 
 -- the loop's own context calls, and isn't started anew
-own_serves : (plant : PlantData) (states : List AbsState) (subject : Context) (mode : ℕ) (head : Node) (declared : ℕ) (l : Loop) (own : Context) (call : ServiceCall)
+own_serves : (plant : PlantData) (states : List AbsState) (task mode : ℕ) (head : Node) (declared : ℕ) (l : Loop) (own : Context) (call : ServiceCall)
     (earlier : List Event) (before after : MachineState) (backs entries : ℕ)
-    → IsInstance plant head declared l own → IsLater plant states subject mode (Serve call) earlier before after
+    → IsInstance plant head declared l own → IsLater plant states task mode (Serve call) earlier before after
     → call.caller ≡ own → same_context own call.caller ≡ true
     → laps_with plant.image l own (Serve call) (laps_of plant.image l own earlier) ≡ laps_of plant.image l own (Serve call ∷ earlier)
     → (ended : Option Context) → call.reply.ended ≡ ended
@@ -249,29 +249,29 @@ own_serves : (plant : PlantData) (states : List AbsState) (subject : Context) (m
     → Circles l head.sites l.bound backs entries (laps_of plant.image l own (Serve call ∷ earlier))
     (cond (is_some ended) None (Some (gone_on (served_by plant.system call before).reply.code call.before)))
     (sum_option (entries_count (its plant head declared l)) (cond (is_some ended) None (behind plant call)))
-own_serves plant states subject mode head declared l own call earlier before after backs entries is later who mine laps_are (Some d) ended stands circles =
+own_serves plant states task mode head declared l own call earlier before after backs entries is later who mine laps_are (Some d) ended stands circles =
     circles_gone l head.sites l.bound backs entries _ _ circles.most
-own_serves plant states subject mode head declared l own call earlier before after backs entries is later who mine laps_are None ended stands circles =
+own_serves plant states task mode head declared l own call earlier before after backs entries is later who mine laps_are None ended stands circles =
     let laps = laps_of plant.image l own earlier in
     let moved = moved_on l call.before.place (following call.before.place) laps in
-    goes_on_rounds plant states subject mode head declared l own call earlier before after backs entries is later who ended
+    goes_on_rounds plant states task mode head declared l own call earlier before after backs entries is later who ended
     (sym (ap (λ b. cond (b && is_none call.reply.ended) moved laps) mine
     ∙ ap (λ (o : Option Context). cond (is_none o) moved laps) ended) ∙ laps_are) stands circles
 
-pub serve_rounds : (plant : PlantData) (states : List AbsState) (subject : Context) (mode : ℕ) (head : Node) (declared : ℕ) (l : Loop) (own : Context) (call : ServiceCall)
+pub serve_rounds : (plant : PlantData) (states : List AbsState) (task mode : ℕ) (head : Node) (declared : ℕ) (l : Loop) (own : Context) (call : ServiceCall)
     (earlier : List Event) (before after : MachineState) (uses : List Column) (waiting : List (Option Column))
-    → IsInstance plant head declared l own → IsLater plant states subject mode (Serve call) earlier before after
+    → IsInstance plant head declared l own → IsLater plant states task mode (Serve call) earlier before after
     → length waiting ≡ context_count plant.system → position_of plant.system waiting call.caller ≡ None
     → Rounds plant head declared l own earlier before uses waiting → (starts : Bool) → is_this own (started_by (Serve call)) ≡ starts
     → (mine : Bool) → same_context own call.caller ≡ mine
     → Rounds plant head declared l own (Serve call ∷ earlier) after
     (option_to_list (used_by plant mode (Serve call) earlier) ++ uses) (waiting_after plant (Serve call) waiting)
-serve_rounds plant states subject mode head declared l own call earlier before after uses waiting is later count ran rounds true starts mine same =
-    let all = covers_of plant states subject mode earlier before later.case in
+serve_rounds plant states task mode head declared l own call earlier before after uses waiting is later count ran rounds true starts mine same =
+    let all = covers_of plant states task mode earlier before later.case in
     let instance = its plant head declared l in
     let nothing = moves_count_nothing instance (λ label. going_by plant mode label (Serve call) earlier) (call_label plant call) in
     let stands : standing_of plant.system after own ≡ at_entry plant.image plant.system call.registers own =
-    serve_after plant states subject mode call earlier before after later own
+    serve_after plant states task mode call earlier before after later own
     ∙ started_here plant.system (at_entry plant.image plant.system call.registers) (option_map contexts.Task call.reply.activated) own
     (gone_standings plant call before) is.exists (placed_count plant.system call.caller _ before.standings ∙ all.room.positions.count) starts in
     circles_as l head.sites l.bound _ _ _ _ _ _ _ _ _ _
@@ -280,23 +280,23 @@ serve_rounds plant states subject mode head declared l own call earlier before a
     (ap (sum_option (entries_count instance)) (sym (started_here plant.system (entered plant) (option_map contexts.Task call.reply.activated) own
     (gone_waiting plant call waiting) is.exists (placed_count plant.system call.caller _ waiting ∙ count) starts)))
     (start_rounds plant later.case.of.belongs head declared l own is call.registers _ _ (laps_of plant.image l own (Serve call ∷ earlier)) rounds.most)
-serve_rounds plant states subject mode head declared l own call earlier before after uses waiting is later count ran rounds false starts true same =
+serve_rounds plant states task mode head declared l own call earlier before after uses waiting is later count ran rounds false starts true same =
     let step : Serves plant.image plant.system call before after = later.step in
-    let all = covers_of plant states subject mode earlier before later.case in
+    let all = covers_of plant states task mode earlier before later.case in
     let instance = its plant head declared l in
     let nothing = moves_count_nothing instance (λ label. going_by plant mode label (Serve call) earlier) (call_label plant call) in
     let who : call.caller ≡ own = same_Some call.caller own (this_is own (Some call.caller) same) in
     let there : IsContext plant.system call.caller = running_exists plant.system before call.caller all.room step.running in
     let next = Some (gone_on (served_by plant.system call before).reply.code call.before) in
     let stands : standing_of plant.system after own ≡ cond (is_some call.reply.ended) None next =
-    serve_after plant states subject mode call earlier before after later own
+    serve_after plant states task mode call earlier before after later own
     ∙ (started_other plant.system (at_entry plant.image plant.system call.registers) (option_map contexts.Task call.reply.activated) own
-    (gone_standings plant call before) is.exists (activated_there plant states subject mode call earlier before after later) starts
+    (gone_standings plant call before) is.exists (activated_there plant states task mode call earlier before after later) starts
     ∙ (ap (position_of plant.system (gone_standings plant call before)) (sym who)
     ∙ placed_here plant.system call.caller (cond (is_some call.reply.ended) None next) before.standings there all.room.positions.count)) in
     let waits : position_of plant.system (waiting_after plant (Serve call) waiting) own ≡ cond (is_some call.reply.ended) None (behind plant call) =
     started_other plant.system (entered plant) (option_map contexts.Task call.reply.activated) own (gone_waiting plant call waiting) is.exists
-    (activated_there plant states subject mode call earlier before after later) starts
+    (activated_there plant states task mode call earlier before after later) starts
     ∙ (ap (position_of plant.system (gone_waiting plant call waiting)) (sym who)
     ∙ placed_here plant.system call.caller (cond (is_some call.reply.ended) None (behind plant call)) waiting there count) in
     let stood : standing_of plant.system before own ≡ Some call.before = ap (standing_of plant.system before) (sym who) ∙ step.stands in
@@ -306,25 +306,25 @@ serve_rounds plant states subject mode head declared l own call earlier before a
     (unused (backs_count instance) (used_by plant mode (Serve call) earlier) uses nothing.0)
     (unused (entries_count instance) (used_by plant mode (Serve call) earlier) uses nothing.1) refl (sym stands)
     (ap (sum_option (entries_count instance)) (sym waits))
-    (own_serves plant states subject mode head declared l own call earlier before after (sum_by (backs_count instance) uses)
+    (own_serves plant states task mode head declared l own call earlier before after (sum_by (backs_count instance) uses)
     (sum_by (entries_count instance) uses) is later who same (sym (laps_old plant l own (Serve call) earlier starts)) call.reply.ended refl stands
     (circles_as l head.sites l.bound _ _ _ _ _ _ _ _ _ _ refl refl refl stood gone rounds))
-serve_rounds plant states subject mode head declared l own call earlier before after uses waiting is later count ran rounds false starts false same =
+serve_rounds plant states task mode head declared l own call earlier before after uses waiting is later count ran rounds false starts false same =
     let step : Serves plant.image plant.system call before after = later.step in
-    let all = covers_of plant states subject mode earlier before later.case in
+    let all = covers_of plant states task mode earlier before later.case in
     let instance = its plant head declared l in
     let nothing = moves_count_nothing instance (λ label. going_by plant mode label (Serve call) earlier) (call_label plant call) in
     let there : IsContext plant.system call.caller = running_exists plant.system before call.caller all.room step.running in
     let laps = laps_of plant.image l own earlier in
     let moved = moved_on l call.before.place (following call.before.place) laps in
     let stands : standing_of plant.system after own ≡ standing_of plant.system before own =
-    serve_after plant states subject mode call earlier before after later own
+    serve_after plant states task mode call earlier before after later own
     ∙ (started_other plant.system (at_entry plant.image plant.system call.registers) (option_map contexts.Task call.reply.activated) own
-    (gone_standings plant call before) is.exists (activated_there plant states subject mode call earlier before after later) starts
+    (gone_standings plant call before) is.exists (activated_there plant states task mode call earlier before after later) starts
     ∙ placed_other plant.system call.caller own _ before.standings is.exists there same) in
     let waits : position_of plant.system (waiting_after plant (Serve call) waiting) own ≡ position_of plant.system waiting own =
     started_other plant.system (entered plant) (option_map contexts.Task call.reply.activated) own (gone_waiting plant call waiting) is.exists
-    (activated_there plant states subject mode call earlier before after later) starts
+    (activated_there plant states task mode call earlier before after later) starts
     ∙ placed_other plant.system call.caller own _ waiting is.exists there same in
     circles_as l head.sites l.bound _ _ _ _ _ _ _ _ _ _
     (unused (backs_count instance) (used_by plant mode (Serve call) earlier) uses nothing.0)

@@ -72,13 +72,13 @@ none_of : (count : Column → ℕ) (visit : Option Column) → ((c : Column) →
 none_of count None none = refl
 none_of count (Some c) none = none c refl
 
-pub run_rounds : (plant : PlantData) (states : List AbsState) (subject : Context) (mode : ℕ) (head : Node) (declared : ℕ) (l : Loop) (own : Context) (events : List Event)
+pub run_rounds : (plant : PlantData) (states : List AbsState) (task mode : ℕ) (head : Node) (declared : ℕ) (l : Loop) (own : Context) (events : List Event)
     (state : MachineState) (window : Window)
-    → IsInstance plant head declared l own → IsDeclaredCase plant states subject mode events state → Wait plant (begun plant mode events) window.waiting
+    → IsInstance plant head declared l own → IsDeclaredCase plant states task mode events state → Wait plant (begun plant mode events) window.waiting
     → Rounds plant head declared l own events state window.uses window.waiting → (who : Option Context) → running_after plant mode events ≡ who
     → Rounds plant head declared l own events state (run_in plant who window).uses (run_in plant who window).waiting
-run_rounds plant states subject mode head declared l own events state window is case waits rounds None runs = rounds
-run_rounds plant states subject mode head declared l own events state window is case waits rounds (Some d) runs =
+run_rounds plant states task mode head declared l own events state window is case waits rounds None runs = rounds
+run_rounds plant states task mode head declared l own events state window is case waits rounds (Some d) runs =
     choose (same_context own d) refl
   where
     backs : sum_by (backs_count (its plant head declared l)) window.uses
@@ -87,7 +87,7 @@ run_rounds plant states subject mode head declared l own events state window is 
         let all = sum_with (backs_count (its plant head declared l)) (position_of plant.system window.waiting d) window.uses in
         let none = none_of (backs_count (its plant head declared l)) (position_of plant.system window.waiting d)
         (λ c e. visit_backs plant (position_of plant.system (begun plant mode events) d) d (its plant head declared l) c
-        (waits.visits d c (runner_exists plant states subject mode events state d case runs) e)) in
+        (waits.visits d c (runner_exists plant states task mode events state d case runs) e)) in
         omega arith
 
     choose : (same : Bool) → same_context own d ≡ same
@@ -102,7 +102,7 @@ run_rounds plant states subject mode head declared l own events state window is 
         (position_of plant.system window.waiting c)) same in omega arith) in
         let gone : position_of plant.system (placed plant.system d None window.waiting) own ≡ None =
         ap (position_of plant.system (placed plant.system d None window.waiting)) (sym same)
-        ∙ placed_here plant.system d None window.waiting (runner_exists plant states subject mode events state d case runs) waits.count in
+        ∙ placed_here plant.system d None window.waiting (runner_exists plant states task mode events state d case runs) waits.count in
         circles_as l head.sites l.bound _ _ _ _ _ _ _ _ _ _ backs entries refl refl
         (ap (sum_option (entries_count (its plant head declared l))) (sym gone))
         (circles_run l head.sites l.bound _ _ _ _ _ rounds)
@@ -111,14 +111,14 @@ run_rounds plant states subject mode head declared l own events state window is 
         absurd (let same : own ≡ d = sym (ap (context_at plant.system) is.place ∙ context_there plant.system own is.exists) ∙ at in
         let wrong : true ≡ false = sym (ap (same_context own) (sym same) ∙ same_itself own) ∙ e in cc)) in
         let none = none_of (entries_count (its plant head declared l)) (position_of plant.system window.waiting d)
-        (λ c at. other_entries plant states subject mode events state head declared l d c case runs
-        (waits.visits d c (runner_exists plant states subject mode events state d case runs) at) other) in
+        (λ c at. other_entries plant states task mode events state head declared l d c case runs
+        (waits.visits d c (runner_exists plant states task mode events state d case runs) at) other) in
         let entries : sum_by (entries_count (its plant head declared l)) window.uses
         ≡ sum_by (entries_count (its plant head declared l)) (run_in plant (Some d) window).uses =
         (let all = sum_with (entries_count (its plant head declared l)) (position_of plant.system window.waiting d) window.uses in omega arith) in
         circles_as l head.sites l.bound _ _ _ _ _ _ _ _ _ _ backs entries refl refl
         (ap (sum_option (entries_count (its plant head declared l)))
-        (sym (placed_other plant.system d own None window.waiting is.exists (runner_exists plant states subject mode events state d case runs) e))) rounds
+        (sym (placed_other plant.system d own None window.waiting is.exists (runner_exists plant states task mode events state d case runs) e))) rounds
 
 -- ---- The context starts
 

@@ -154,14 +154,14 @@ most_here plant blocks context test most own i holds (Some (Stands node)) at =
     let same : who.context ≡ context = same_Some who.context context (sym stands.owner ∙ own node passes) in
     holds node passes (subst (λ (c : Context). StandsThere plant (position_of plant.system blocks c) c node) same stands))
 
-opening_most : (plant : PlantData) (states : List AbsState) (subject : Context) (mode : ℕ) (events : List Event) (state : MachineState)
-    → IsDeclaredCase plant states subject mode events state → (context : Context) (test : ℕ → Bool) (most : ℕ) → AreOf plant context test
+opening_most : (plant : PlantData) (states : List AbsState) (task mode : ℕ) (events : List Event) (state : MachineState)
+    → IsDeclaredCase plant states task mode events state → (context : Context) (test : ℕ → Bool) (most : ℕ) → AreOf plant context test
     → ((node : ℕ) → test node ≡ true → StandsThere plant (position_of plant.system (begun plant mode events) context) context node → 1 ≤ most)
     → sum_waiting (stands_count test) (standing_visits plant mode events) ≤ most
-opening_most plant states subject mode events state case context test most own holds =
+opening_most plant states task mode events state case context test most own holds =
     let blocks : List (Option ℕ) = begun plant mode events in
     let waiting : List (Option Column) = standing_visits plant mode events in
-    let waits = opening_waits plant states subject mode events state case in
+    let waits = opening_waits plant states task mode events state case in
     let here = most_here plant blocks context test most own (place_of plant.system context) holds (get_or waiting (place_of plant.system context) None)
     (λ v e. waits_at plant blocks waiting waits (place_of plant.system context) v e) in
     let only = only_at (stands_count test) waiting (place_of plant.system context)
@@ -169,22 +169,22 @@ opening_most plant states subject mode events state case context test most own h
     omega arith
 
 -- Where each start leaves the context, a bound on the one visit that it may make.
-abbrev Leaves : PlantData → List AbsState → Context → ℕ → Context → (ℕ → Bool) → (Start → Bool) → Type 0
-Leaves plant states subject mode context test passes =
-    (events : List Event) (state : MachineState) → IsDeclaredCase plant states subject mode events state → (start : Start)
+abbrev Leaves : PlantData → List AbsState → ℕ → ℕ → Context → (ℕ → Bool) → (Start → Bool) → Type 0
+Leaves plant states task mode context test passes =
+    (events : List Event) (state : MachineState) → IsDeclaredCase plant states task mode events state → (start : Start)
     → state_after plant start ≡ shadow_after plant mode events → (node : ℕ) → test node ≡ true
     → StandsThere plant (position_of plant.system (begun plant mode events) context) context node → passes start ≡ true
 
-stands_inducts : (plant : PlantData) (states : List AbsState) (subject : Context) (mode : ℕ) (context : Context) (test : ℕ → Bool) (passes : Start → Bool)
-    → AreOf plant context test → Leaves plant states subject mode context test passes
-    → Inducts plant states subject mode (IsBegun (stands_count test) (starts_count passes))
-stands_inducts plant states subject mode context test passes own leaves = record {
+stands_inducts : (plant : PlantData) (states : List AbsState) (task mode : ℕ) (context : Context) (test : ℕ → Bool) (passes : Start → Bool)
+    → AreOf plant context test → Leaves plant states task mode context test passes
+    → Inducts plant states task mode (IsBegun (stands_count test) (starts_count passes))
+stands_inducts plant states task mode context test passes own leaves = record {
   starts = λ state case is. opened_begun plant mode (stands_count test) (starts_count passes) (Some (Starts (In mode))) [] state
-      (let most = opening_most plant states subject mode [] state case context test (one (passes (In mode))) own
+      (let most = opening_most plant states task mode [] state case context test (one (passes (In mode))) own
       (λ node in_test stands. let is_one = ap one (leaves [] state case (In mode) refl node in_test stands) in omega arith) in omega arith);
   begins = λ event earlier before after later is.
       opened_begun plant mode (stands_count test) (starts_count passes) (start_by plant mode event earlier) (event ∷ earlier) after
-      (elim (moves_or_stays plant states subject mode event earlier before after later) [
+      (elim (moves_or_stays plant states task mode event earlier before after later) [
         | inl move ↦
             let start : Start = By (going_by plant mode move.label event earlier) in
             let first : start_by plant mode event earlier ≡ Some (Starts start) =
@@ -192,10 +192,10 @@ stands_inducts plant states subject mode context test passes own leaves = record
             let count : sum_option (stands_count test) (start_by plant mode event earlier) ≡ 0 = ap (sum_option (stands_count test)) first in
             let bound : sum_option (starts_count passes) (start_by plant mode event earlier) ≡ one (passes start) =
             ap (sum_option (starts_count passes)) first in
-            let most = opening_most plant states subject mode (event ∷ earlier) after later.whole context test (one (passes start)) own
+            let most = opening_most plant states task mode (event ∷ earlier) after later.whole context test (one (passes start)) own
             (λ node in_test stands. let is_one = ap one (leaves (event ∷ earlier) after later.whole start refl node in_test stands) in omega arith) in
             omega arith
-        | inr still ↦ absurd (none-some subject (sym still.nobody_starts ∙ is))
+        | inr still ↦ absurd (none-some (contexts.Task task) (sym still.nobody_starts ∙ is))
       ]);
   goes_on = λ event earlier before after window later new on is_open was.
       gone_on_begun plant mode (stands_count test) (starts_count passes) event earlier before after window
@@ -212,88 +212,88 @@ leaves_if : (own held : Bool) → held ≡ true → cond own true held ≡ true
 leaves_if true held e = refl
 leaves_if false held e = e
 
-holds_now : (plant : PlantData) (states : List AbsState) (subject : Context) (mode : ℕ) (events : List Event) (state : MachineState)
-    → IsDeclaredCase plant states subject mode events state → (context : Context) (node : ℕ)
+holds_now : (plant : PlantData) (states : List AbsState) (task mode : ℕ) (events : List Event) (state : MachineState)
+    → IsDeclaredCase plant states task mode events state → (context : Context) (node : ℕ)
     → StandsThere plant (position_of plant.system (begun plant mode events) context) context node
     → holds_in plant (shadow_after plant mode events) context node ≡ true
-holds_now plant states subject mode events state case context node stands =
-    ap (λ (bs : List (Option ℕ)). holds_at plant (position_of plant.system bs context) node) (told_of plant states subject mode events state case).blocks
+holds_now plant states task mode events state case context node stands =
+    ap (λ (bs : List (Option ℕ)). holds_at plant (position_of plant.system bs context) node) (told_of plant states task mode events state case).blocks
     ∙ stands.inside
 
-node_leaves : (plant : PlantData) (states : List AbsState) (subject : Context) (mode : ℕ) (context : Context) (node : ℕ)
-    → Leaves plant states subject mode context (nat_eq node) (leaves_at plant subject context node)
-node_leaves plant states subject mode context node events state case start same other e stands =
+node_leaves : (plant : PlantData) (states : List AbsState) (task mode : ℕ) (context : Context) (node : ℕ)
+    → Leaves plant states task mode context (nat_eq node) (leaves_at plant task context node)
+node_leaves plant states task mode context node events state case start same other e stands =
     let is : node ≡ other = eqb-true node other e in
-    leaves_if (is_this context (Some subject)) (holds_in plant (state_after plant start) context node)
+    leaves_if (is_this context (Some (contexts.Task task))) (holds_in plant (state_after plant start) context node)
     (ap (λ (s : AbsState). holds_in plant s context node) same
     ∙ (ap (holds_in plant (shadow_after plant mode events) context) is
-    ∙ holds_now plant states subject mode events state case context other stands))
+    ∙ holds_now plant states task mode events state case context other stands))
 
-node_passes : (plant : PlantData) (states : List AbsState) (subject : Context) (mode : ℕ) (context : Context) (node : ℕ) → owner_of plant node ≡ Some context
-    → (events : List Event) (state : MachineState) → IsDeclaredCase plant states subject mode events state
-    → IsActive state.kernel subject → (c : Context) (visit : Column) → running_after plant mode events ≡ Some c
+node_passes : (plant : PlantData) (states : List AbsState) (task mode : ℕ) (context : Context) (node : ℕ) → owner_of plant node ≡ Some context
+    → (events : List Event) (state : MachineState) → IsDeclaredCase plant states task mode events state
+    → IsActive state.kernel (contexts.Task task) → (c : Context) (visit : Column) → running_after plant mode events ≡ Some c
     → IsVisit plant (position_of plant.system (begun plant mode events) c) c visit
-    → stands_count (nat_eq node) visit ≤ one (runs_at plant subject context node (shadow_after plant mode events))
-node_passes plant states subject mode context node own events state case active c (Starts start) runs_now is = omega arith
-node_passes plant states subject mode context node own events state case active c (Moves going) runs_now is = omega arith
-node_passes plant states subject mode context node own events state case active c (Goes along) runs_now is = omega arith
-node_passes plant states subject mode context node own events state case active c (Begins number) runs_now is = omega arith
-node_passes plant states subject mode context node own events state case active c (Stands other) runs_now is =
+    → stands_count (nat_eq node) visit ≤ one (runs_at plant task context node (shadow_after plant mode events))
+node_passes plant states task mode context node own events state case active c (Starts start) runs_now is = omega arith
+node_passes plant states task mode context node own events state case active c (Moves going) runs_now is = omega arith
+node_passes plant states task mode context node own events state case active c (Goes along) runs_now is = omega arith
+node_passes plant states task mode context node own events state case active c (Begins number) runs_now is = omega arith
+node_passes plant states task mode context node own events state case active c (Stands other) runs_now is =
     one_if (nat_eq node other) _ (λ e.
-    let told = told_of plant states subject mode events state case in
+    let told = told_of plant states task mode events state case in
     let stands : StandsThere plant (position_of plant.system (begun plant mode events) c) c other = is in
     let same : c ≡ context = same_Some c context (sym stands.owner ∙ at_node_of plant context node own other e) in
     let here : StandsThere plant (position_of plant.system (begun plant mode events) context) context other =
     subst (λ (d : Context). StandsThere plant (position_of plant.system (begun plant mode events) d) d other) same stands in
-    both_true _ _ (active_in plant mode events state told subject active)
+    both_true _ _ (active_in plant mode events state told (contexts.Task task) active)
     (both_true _ _ (is_this_one context (running_in plant (shadow_after plant mode events))
     (runs_in plant mode events state told ∙ (runs_now ∙ ap Some same)))
     (ap (holds_in plant (shadow_after plant mode events) context) (eqb-true node other e)
-    ∙ holds_now plant states subject mode events state case context other here)))
+    ∙ holds_now plant states task mode events state case context other here)))
 
-abbrev left_row : PlantData → Context → Context → ℕ → Row
-left_row plant subject context node =
-    record { factor = λ column. stands_that (nat_eq node) column -ℤ starts_that (leaves_at plant subject context node) column; right = 0 }
+abbrev left_row : PlantData → ℕ → Context → ℕ → Row
+left_row plant task context node =
+    record { factor = λ column. stands_that (nat_eq node) column -ℤ starts_that (leaves_at plant task context node) column; right = 0 }
 
-abbrev runs_row : PlantData → Context → Context → ℕ → Row
-runs_row plant subject context node =
-    record { factor = λ column. stands_that (nat_eq node) column -ℤ into plant subject (runs_at plant subject context node) column; right = 0 }
+abbrev runs_row : PlantData → ℕ → Context → ℕ → Row
+runs_row plant task context node =
+    record { factor = λ column. stands_that (nat_eq node) column -ℤ into plant task (runs_at plant task context node) column; right = 0 }
 
-left_row_meets : (plant : PlantData) (states : List AbsState) (subject : Context) (mode : ℕ) (events : List Event) (state : MachineState) (uses : List Column) (since : ℕ)
-    → IsDeclaredCase plant states subject mode events state → IsUsed plant subject mode events uses since
-    → (context : Context) (node : ℕ) → owner_of plant node ≡ Some context → Meets uses (left_row plant subject context node)
-left_row_meets plant states subject mode events state uses since case used context node own =
-    let passes : Start → Bool = leaves_at plant subject context node in
-    let most = begun_at_most plant states subject mode (stands_count (nat_eq node)) (starts_count passes) (stands_visits (nat_eq node))
-    (stands_inducts plant states subject mode context (nat_eq node) passes (at_node_of plant context node own)
-    (node_leaves plant states subject mode context node)) events state uses since case used in
-    meets_by (left_row plant subject context node).factor (stands_count (nat_eq node)) (starts_count passes) 0 uses
+left_row_meets : (plant : PlantData) (states : List AbsState) (task mode : ℕ) (events : List Event) (state : MachineState) (uses : List Column) (since : ℕ)
+    → IsDeclaredCase plant states task mode events state → IsUsed plant task mode events uses since
+    → (context : Context) (node : ℕ) → owner_of plant node ≡ Some context → Meets uses (left_row plant task context node)
+left_row_meets plant states task mode events state uses since case used context node own =
+    let passes : Start → Bool = leaves_at plant task context node in
+    let most = begun_at_most plant states task mode (stands_count (nat_eq node)) (starts_count passes) (stands_visits (nat_eq node))
+    (stands_inducts plant states task mode context (nat_eq node) passes (at_node_of plant context node own)
+    (node_leaves plant states task mode context node)) events state uses since case used in
+    meets_by (left_row plant task context node).factor (stands_count (nat_eq node)) (starts_count passes) 0 uses
     (λ column. difference_counted (stands_that (nat_eq node) column) (starts_that passes column) _ _
     (stands_counted (nat_eq node) column) (starts_counted passes column)) (omega arith)
 
-runs_row_meets : (plant : PlantData) (states : List AbsState) (subject : Context) (mode : ℕ) (events : List Event) (state : MachineState) (uses : List Column) (since : ℕ)
-    → IsDeclaredCase plant states subject mode events state → IsUsed plant subject mode events uses since
-    → (context : Context) (node : ℕ) → owner_of plant node ≡ Some context → Meets uses (runs_row plant subject context node)
-runs_row_meets plant states subject mode events state uses since case used context node own =
-    let test : AbsState → Bool = runs_at plant subject context node in
-    let most = entered_at_most plant states subject mode (stands_count (nat_eq node)) test (stands_visits (nat_eq node))
-    (node_passes plant states subject mode context node own) events state uses since case used in
-    meets_by (runs_row plant subject context node).factor (stands_count (nat_eq node)) (into_count plant subject test) 0 uses
-    (λ column. difference_counted (stands_that (nat_eq node) column) (into plant subject test column) _ _
-    (stands_counted (nat_eq node) column) (into_counted plant subject test column)) (omega arith)
+runs_row_meets : (plant : PlantData) (states : List AbsState) (task mode : ℕ) (events : List Event) (state : MachineState) (uses : List Column) (since : ℕ)
+    → IsDeclaredCase plant states task mode events state → IsUsed plant task mode events uses since
+    → (context : Context) (node : ℕ) → owner_of plant node ≡ Some context → Meets uses (runs_row plant task context node)
+runs_row_meets plant states task mode events state uses since case used context node own =
+    let test : AbsState → Bool = runs_at plant task context node in
+    let most = entered_at_most plant states task mode (stands_count (nat_eq node)) test (stands_visits (nat_eq node))
+    (node_passes plant states task mode context node own) events state uses since case used in
+    meets_by (runs_row plant task context node).factor (stands_count (nat_eq node)) (into_count plant task test) 0 uses
+    (λ column. difference_counted (stands_that (nat_eq node) column) (into plant task test column) _ _
+    (stands_counted (nat_eq node) column) (into_counted plant task test column)) (omega arith)
 
 -- ---- The row of a context
 
 owned_are : (plant : PlantData) (context : Context) → AreOf plant context (is_owned plant context)
 owned_are plant context node e = this_is context (owner_of plant node) e
 
-once_meets : (plant : PlantData) (states : List AbsState) (subject : Context) (mode : ℕ) (events : List Event) (state : MachineState) (uses : List Column) (since : ℕ)
-    → IsDeclaredCase plant states subject mode events state → IsUsed plant subject mode events uses since
+once_meets : (plant : PlantData) (states : List AbsState) (task mode : ℕ) (events : List Event) (state : MachineState) (uses : List Column) (since : ℕ)
+    → IsDeclaredCase plant states task mode events state → IsUsed plant task mode events uses since
     → (context : Context) → Meets uses (stands_once plant context)
-once_meets plant states subject mode events state uses since case used context =
+once_meets plant states task mode events state uses since case used context =
     let passes : Start → Bool = (λ start. true) in
-    let most = begun_at_most plant states subject mode (stands_count (is_owned plant context)) (starts_count passes) (stands_visits (is_owned plant context))
-    (stands_inducts plant states subject mode context (is_owned plant context) passes (owned_are plant context)
+    let most = begun_at_most plant states task mode (stands_count (is_owned plant context)) (starts_count passes) (stands_visits (is_owned plant context))
+    (stands_inducts plant states task mode context (is_owned plant context) passes (owned_are plant context)
     (λ events state case start same node e stands. refl)) events state uses since case used in
     meets_by (stands_once plant context).factor (stands_count (is_owned plant context)) (starts_count passes) 0 uses
     (λ column. difference_counted (stands_that (is_owned plant context) column) (all_starts column) _ _
@@ -302,20 +302,20 @@ once_meets plant states subject mode events state uses since case used context =
 -- ---- All of them
 
 pub meets_standing : MeetsStanding
-meets_standing plant states subject mode events state uses since case used =
-    let nodes : List ℕ = positions plant states subject in
+meets_standing plant states task mode events state uses since case used =
+    let nodes : List ℕ = positions plant states task in
     let those : List Context =
     filter (λ context. list_any (is_owned plant context) nodes) (map (context_at plant.system) (range_with_len 0 (context_count plant.system))) in
-    All-append (Meets uses) (flat_map (λ node. option_map_or (λ context. standing_rows plant subject context node) (owner_of plant node) []) nodes)
+    All-append (Meets uses) (flat_map (λ node. option_map_or (λ context. standing_rows plant task context node) (owner_of plant node) []) nodes)
     (map (stands_once plant) those)
-    (all_flat_map (Meets uses) (λ node. option_map_or (λ context. standing_rows plant subject context node) (owner_of plant node) []) nodes
+    (all_flat_map (Meets uses) (λ node. option_map_or (λ context. standing_rows plant task context node) (owner_of plant node) []) nodes
     (λ node. of node (owner_of plant node) refl))
     (All-map (Meets uses) (stands_once plant) those
-    (λ k d within. once_meets plant states subject mode events state uses since case used (get_or those k d)))
+    (λ k d within. once_meets plant states task mode events state uses since case used (get_or those k d)))
   where
     of : (node : ℕ) (owner : Option Context) → owner_of plant node ≡ owner
-        → All (Meets uses) (option_map_or (λ context. standing_rows plant subject context node) owner [])
+        → All (Meets uses) (option_map_or (λ context. standing_rows plant task context node) owner [])
     of node None e = All-nil (Meets uses)
-    of node (Some context) e = all_two (Meets uses) (left_row plant subject context node) (runs_row plant subject context node)
-        (left_row_meets plant states subject mode events state uses since case used context node e)
-        (runs_row_meets plant states subject mode events state uses since case used context node e)
+    of node (Some context) e = all_two (Meets uses) (left_row plant task context node) (runs_row plant task context node)
+        (left_row_meets plant states task mode events state uses since case used context node e)
+        (runs_row_meets plant states task mode events state uses since case used context node e)

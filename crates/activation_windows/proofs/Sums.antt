@@ -3,7 +3,7 @@ use Rattle.std.proofs.Common.{◌≡◌, ℕ, zero, suc, ◌+◌, ◌≤◌, Boo
 use Rattle.std.specs.Prelude.{not, ◌&&◌, ℤ, pos, ◌+ℤ◌, ◌-ℤ◌, sum_by, option_to_list}
 use Rattle.std.proofs.lemmas.Int.{ints}
 use Rattle.std.proofs.lemmas.List.Sums.{sum_by-cons}
-use Rattle.osek_kernel.specs.declared.context.Context.{Context}
+use Rattle.osek_kernel.specs.declared.context.Context.TheVariants as contexts
 use Rattle.wcet_atomic_blocks.specs.Plants.{PlantData}
 use Rattle.abstract_sched.specs.declared.states.AbsState.{AbsState}
 use Rattle.row_build.specs.Columns.{Along, Going, Start, Column, Starts, Moves, Goes, Begins, Stands, state_after, ends_in}
@@ -63,10 +63,10 @@ abbrev pub stands_count : (ℕ → Bool) → Column → ℕ
 stands_count test (Stands node) = one (test node)
 stands_count test column = 0
 
-abbrev pub into_count : PlantData → Context → (AbsState → Bool) → Column → ℕ
-into_count plant subject test column =
+abbrev pub into_count : PlantData → ℕ → (AbsState → Bool) → Column → ℕ
+into_count plant task test column =
     starts_count (λ start. test (state_after plant start)) column
-    + moves_count (λ going. test going.move.to && not (ends_in plant subject going)) column
+    + moves_count (λ going. test going.move.to && not (ends_in plant (contexts.Task task) going)) column
 
 pub starts_counted : (test : Start → Bool) (column : Column) → starts_that test column ≡ pos (starts_count test column)
 starts_counted test (Starts start) = counted_one (test start)
@@ -109,13 +109,13 @@ sum_counted a b m n e f = rw e (rw f refl)
 pub difference_counted : (a b : ℤ) (m n : ℕ) → a ≡ pos m → b ≡ pos n → a -ℤ b ≡ pos m -ℤ pos n
 difference_counted a b m n e f = rw e (rw f refl)
 
-pub into_counted : (plant : PlantData) (subject : Context) (test : AbsState → Bool) (column : Column)
-    → into plant subject test column ≡ pos (into_count plant subject test column)
-into_counted plant subject test column =
+pub into_counted : (plant : PlantData) (task : ℕ) (test : AbsState → Bool) (column : Column)
+    → into plant task test column ≡ pos (into_count plant task test column)
+into_counted plant task test column =
     sum_counted _ _ (starts_count (λ start. test (state_after plant start)) column)
-    (moves_count (λ going. test going.move.to && not (ends_in plant subject going)) column)
+    (moves_count (λ going. test going.move.to && not (ends_in plant (contexts.Task task) going)) column)
     (starts_counted (λ start. test (state_after plant start)) column)
-    (moves_counted (λ going. test going.move.to && not (ends_in plant subject going)) column)
+    (moves_counted (λ going. test going.move.to && not (ends_in plant (contexts.Task task) going)) column)
 
 -- ---- Sums over columns that are there or not
 

@@ -17,7 +17,7 @@ use Rattle.shadow_runs.specs.Shadow.{node_of}
 use Rattle.row_build.specs.Columns.{Along, By, Column, Starts, Moves, Goes, Begins, Stands, takes_source}
 use Rattle.row_build.specs.Families.{is_start_by, taken}
 use Rattle.activation_windows.specs.Windows.{Window, along_of, behind, entered, going_by, gone_on, nodes_after, opened, running_after, start_by, used_by, waiting_after}
-use Rattle.osek_machine.proofs.Calendar.{in_calendar, waits}
+use Rattle.activation_windows.proofs.Calendar.{in_calendar, waits}
 use Rattle.activation_windows.proofs.Induction.{IsLater}
 use Rattle.activation_windows.proofs.Sums.{one, starts_count, moves_count, starts_counted, moves_counted, sum_counted, sum_option, sum_waiting, sum_with}
 use Rattle.activation_windows.proofs.InBlocks.{newly, run_total, waiting_sum}
@@ -116,66 +116,66 @@ arrive_counts true waiting = omega arith
 arrive_counts false waiting = omega arith
 
 -- only an arrival makes it more
-pub step_counts : (plant : PlantData) (states : List AbsState) (subject : Context) (mode source : ℕ) (event : Event) (earlier : List Event) (before after : MachineState)
-    → IsLater plant states subject mode event earlier before after
+pub step_counts : (plant : PlantData) (states : List AbsState) (task mode source : ℕ) (event : Event) (earlier : List Event) (before after : MachineState)
+    → IsLater plant states task mode event earlier before after
     → sum_option (takes source) (used_by plant mode event earlier) + one (waits source (event ∷ earlier))
     ≤ one (waits source earlier) + one (arrives_here source event)
-step_counts plant states subject mode source (Arrive arrival) earlier before after later = let counts = arrive_counts (arrival.source == source)
+step_counts plant states task mode source (Arrive arrival) earlier before after later = let counts = arrive_counts (arrival.source == source)
     (waits source earlier) in
     omega arith
-step_counts plant states subject mode source (Take taking) earlier before after later =
+step_counts plant states task mode source (Take taking) earlier before after later =
     let step : Takes plant.image plant.system taking before after = later.step in
     let arrived = (λ (same : (taking.source == source) ≡ true).
     ap (λ n. waits n earlier) (sym (eqb-true taking.source source same))
     ∙ (in_calendar plant.image plant.system mode earlier before later.case.of.run).pending taking.source step.pending) in
     let counts = take_counts (taking.source == source) (waits source earlier) arrived in
     omega arith
-step_counts plant states subject mode source (Execute execution) earlier before after later =
+step_counts plant states task mode source (Execute execution) earlier before after later =
     let none = goes_take source (along_of plant execution) in omega arith
-step_counts plant states subject mode source (Serve call) earlier before after later =
+step_counts plant states task mode source (Serve call) earlier before after later =
     let none = service_takes source (λ label. Moves (going_by plant mode label (Serve call) earlier)) (node_of plant call.caller call.before) (λ node. refl) in
     omega arith
-step_counts plant states subject mode source (Idle cycles) earlier before after later = omega arith
+step_counts plant states task mode source (Idle cycles) earlier before after later = omega arith
 
 one_at_most : (flag : Bool) → one flag ≤ 1
 one_at_most true = omega arith
 one_at_most false = omega arith
 
 -- a step that starts a task takes it as well, where it takes it
-pub start_counts : (plant : PlantData) (states : List AbsState) (subject : Context) (mode source : ℕ) (event : Event) (earlier : List Event) (before after : MachineState)
-    (context : Context) → IsLater plant states subject mode event earlier before after → started_by event ≡ Some context
+pub start_counts : (plant : PlantData) (states : List AbsState) (task mode source : ℕ) (event : Event) (earlier : List Event) (before after : MachineState)
+    (context : Context) → IsLater plant states task mode event earlier before after → started_by event ≡ Some context
     → sum_option (takes source) (start_by plant mode event earlier) + one (waits source (event ∷ earlier)) ≤ one (waits source earlier)
-start_counts plant states subject mode source (Arrive arrival) earlier before after context later starts = absurd (none-some context starts)
-start_counts plant states subject mode source (Take taking) earlier before after context later starts =
+start_counts plant states task mode source (Arrive arrival) earlier before after context later starts = absurd (none-some context starts)
+start_counts plant states task mode source (Take taking) earlier before after context later starts =
     let step : Takes plant.image plant.system taking before after = later.step in
     let arrived = (λ (same : (taking.source == source) ≡ true).
     ap (λ n. waits n earlier) (sym (eqb-true taking.source source same))
     ∙ (in_calendar plant.image plant.system mode earlier before later.case.of.run).pending taking.source step.pending) in
     let counts = take_counts (taking.source == source) (waits source earlier) arrived in
     omega arith
-start_counts plant states subject mode source (Execute execution) earlier before after context later starts = absurd (none-some context starts)
-start_counts plant states subject mode source (Serve call) earlier before after context later starts =
+start_counts plant states task mode source (Execute execution) earlier before after context later starts = absurd (none-some context starts)
+start_counts plant states task mode source (Serve call) earlier before after context later starts =
     let none = service_takes source (λ label. Starts (By (going_by plant mode label (Serve call) earlier))) (node_of plant call.caller call.before)
     (λ node. refl) in
     omega arith
-start_counts plant states subject mode source (Idle cycles) earlier before after context later starts = absurd (none-some context starts)
+start_counts plant states task mode source (Idle cycles) earlier before after context later starts = absurd (none-some context starts)
 
 -- the same as counts of windows
-pub gone_on_counts : (plant : PlantData) (states : List AbsState) (subject : Context) (mode source : ℕ) (event : Event) (earlier : List Event) (before after : MachineState)
-    (window : Window) → IsLater plant states subject mode event earlier before after
+pub gone_on_counts : (plant : PlantData) (states : List AbsState) (task mode source : ℕ) (event : Event) (earlier : List Event) (before after : MachineState)
+    (window : Window) → IsLater plant states task mode event earlier before after
     → took source (gone_on plant mode event earlier window) + one (waits source (event ∷ earlier))
     ≤ (took source window + one (waits source earlier)) + one (arrives_here source event)
-gone_on_counts plant states subject mode source event earlier before after window later =
+gone_on_counts plant states task mode source event earlier before after window later =
     let more = gone_on_took plant mode source event earlier window in
-    let counts = step_counts plant states subject mode source event earlier before after later in
+    let counts = step_counts plant states task mode source event earlier before after later in
     omega arith
 
-pub opened_counts : (plant : PlantData) (states : List AbsState) (subject : Context) (mode source : ℕ) (event : Event) (earlier : List Event) (before after : MachineState)
-    (context : Context) → IsLater plant states subject mode event earlier before after → started_by event ≡ Some context
+pub opened_counts : (plant : PlantData) (states : List AbsState) (task mode source : ℕ) (event : Event) (earlier : List Event) (before after : MachineState)
+    (context : Context) → IsLater plant states task mode event earlier before after → started_by event ≡ Some context
     → took source (opened plant mode (start_by plant mode event earlier) (event ∷ earlier)) + one (waits source (event ∷ earlier)) ≤ one (waits source earlier)
-opened_counts plant states subject mode source event earlier before after context later starts =
+opened_counts plant states task mode source event earlier before after context later starts =
     let more = opened_took plant mode source (start_by plant mode event earlier) (event ∷ earlier) in
-    let counts = start_counts plant states subject mode source event earlier before after context later starts in
+    let counts = start_counts plant states task mode source event earlier before after context later starts in
     omega arith
 
 pub waits_once : (source : ℕ) (events : List Event) → one (waits source events) ≤ 1

@@ -56,55 +56,55 @@ is_visit (Begins block) = true
 is_visit (Stands node) = true
 
 -- A visit that is a column, by a context that stands at this node.
-pub record IsVisit (plant : PlantData) (states : List AbsState) (subject : Context) (node : Option ℕ) (column : Column) : Type 0 where
-  pub listed : Contains (columns plant states subject) column
+pub record IsVisit (plant : PlantData) (states : List AbsState) (task : ℕ) (node : Option ℕ) (column : Column) : Type 0 where
+  pub listed : Contains (columns plant states task) column
   pub visits : is_visit column ≡ true
   pub at : node ≡ visit_node plant column
 
 -- what waits for a context is a visit of its node
-abbrev pub WaitsAt : PlantData → List AbsState → Context → Context → Option Column → Option ℕ → Type 0
-WaitsAt plant states subject context waits node = (column : Column) → waits ≡ Some column → IsVisit plant states subject node column
+abbrev pub WaitsAt : PlantData → List AbsState → ℕ → Context → Option Column → Option ℕ → Type 0
+WaitsAt plant states task context waits node = (column : Column) → waits ≡ Some column → IsVisit plant states task node column
 
-abbrev pub WaitAtNodes : PlantData → List AbsState → Context → List (Option Column) → List (Option ℕ) → Type 0
-WaitAtNodes plant states subject waiting nodes = Relates plant.system (WaitsAt plant states subject) waiting nodes
+abbrev pub WaitAtNodes : PlantData → List AbsState → ℕ → List (Option Column) → List (Option ℕ) → Type 0
+WaitAtNodes plant states task waiting nodes = Relates plant.system (WaitsAt plant states task) waiting nodes
 
 pub made_of : {A B : Type 0} (f : A → B) (o : Option A) (y : B) → option_map f o ≡ Some y → (x : A) × (o ≡ Some x) × (f x ≡ y)
 made_of f None y e = absurd (none-some y e)
 made_of f (Some x) y e = (x, refl, same_Some (f x) y e)
 
-nobody_waits : (plant : PlantData) (states : List AbsState) (subject : Context) (context : Context) (node : Option ℕ) → WaitsAt plant states subject context None node
-nobody_waits plant states subject context at column e = absurd (none-some column e)
+nobody_waits : (plant : PlantData) (states : List AbsState) (task : ℕ) (context : Context) (node : Option ℕ) → WaitsAt plant states task context None node
+nobody_waits plant states task context at column e = absurd (none-some column e)
 
 -- ---- Of a context that starts
 
-other_entry : (plant : PlantData) → IsPlant plant → (subject : Context) (context : Context) (block : ℕ) → IsContext plant.system subject
-    → IsContext plant.system context → entry_block plant context ≡ Some block → (context ≡ subject → ⊥)
-    → (same : Bool) → is_own_entry plant subject block ≡ same → same ≡ false
-other_entry plant is subject context block own exists entered apart false e = refl
-other_entry plant is subject context block own exists entered apart true e =
-    let mine = has_entry_block plant is subject own in
+other_entry : (plant : PlantData) → IsPlant plant → (task : ℕ) (context : Context) (block : ℕ) → IsContext plant.system (contexts.Task task)
+    → IsContext plant.system context → entry_block plant context ≡ Some block → (context ≡ contexts.Task task → ⊥)
+    → (same : Bool) → is_own_entry plant task block ≡ same → same ≡ false
+other_entry plant is task context block own exists entered apart false e = refl
+other_entry plant is task context block own exists entered apart true e =
+    let mine = has_entry_block plant is (contexts.Task task) own in
     let its = has_entry_block plant is context exists in
     let same : block ≡ mine.number = eqb-true block mine.number (sym (ap (λ (o : Option ℕ). option_map_or (nat_eq block) o false) mine.entered) ∙ e) in
     let number : its.number ≡ mine.number = same_Some its.number block (sym its.entered ∙ entered) ∙ same in
     let blocks : its.block ≡ mine.block = same_Some its.block mine.block (sym its.there ∙ (ap (slice_get plant.blocks.blocks) number ∙ mine.there)) in
-    let places : place_of plant.system context ≡ place_of plant.system subject =
+    let places : place_of plant.system context ≡ place_of plant.system (contexts.Task task) =
     sym its.begins.owner ∙ (ap (λ (b : Block). b.begin.owner) blocks ∙ mine.begins.owner) in
-    elim (contexts_apart plant.system context subject exists own) [
+    elim (contexts_apart plant.system context (contexts.Task task) exists own) [
       | inl one ↦ absurd (apart one)
       | inr other ↦ absurd (other places)
     ]
 
-pub entered_visit : (plant : PlantData) (states : List AbsState) → IsPlant plant → (subject : Context) (context : Context)
-    → IsContext plant.system subject → IsContext plant.system context → (context ≡ subject → ⊥)
-    → WaitsAt plant states subject context (entered plant context) (entry_node plant context)
-entered_visit plant states is subject context own exists apart column e =
+pub entered_visit : (plant : PlantData) (states : List AbsState) → IsPlant plant → (task : ℕ) (context : Context)
+    → IsContext plant.system (contexts.Task task) → IsContext plant.system context → (context ≡ contexts.Task task → ⊥)
+    → WaitsAt plant states task context (entered plant context) (entry_node plant context)
+entered_visit plant states is task context own exists apart column e =
     let made = made_of Begins (entry_block plant context) column e in
     let has = has_entry_block plant is context exists in
     let number : has.number ≡ made.0 = same_Some has.number made.0 (sym has.entered ∙ made.1) in
     let there : slice_get plant.blocks.blocks made.0 ≡ Some has.block = ap (slice_get plant.blocks.blocks) (sym number) ∙ has.there in
-    subst (IsVisit plant states subject (entry_node plant context)) made.2 (record {
-      listed = begins_listed plant states subject made.0 (slice_get_within plant.blocks.blocks made.0 has.block there)
-          (other_entry plant is subject context made.0 own exists made.1 apart (is_own_entry plant subject made.0) refl);
+    subst (IsVisit plant states task (entry_node plant context)) made.2 (record {
+      listed = begins_listed plant states task made.0 (slice_get_within plant.blocks.blocks made.0 has.block there)
+          (other_entry plant is task context made.0 own exists made.1 apart (is_own_entry plant task made.0) refl);
       visits = refl;
       at = ap (option_and_then (first_of_block plant)) made.1;
     })
@@ -115,38 +115,38 @@ pub joined : {A B : Type 0} (f : A → Option B) (o : Option A) (y : B) → opti
 joined f None y e = absurd (none-some y e)
 joined f (Some x) y e = (x, refl, e)
 
-no_entry : (plant : PlantData) → IsPlant plant → (subject : Context) (node block : ℕ) → slice_get plant.blocks.afters node ≡ Some (Some block)
-    → (same : Bool) → is_own_entry plant subject block ≡ same → same ≡ false
+no_entry : (plant : PlantData) → IsPlant plant → (task node block : ℕ) → slice_get plant.blocks.afters node ≡ Some (Some block)
+    → (same : Bool) → is_own_entry plant task block ≡ same → same ≡ false
 unfolding AftersAreNoEntries
-no_entry plant is subject node block after false e = refl
-no_entry plant is subject node block after true e = absurd (by (entry_block plant subject) refl e)
+no_entry plant is task node block after false e = refl
+no_entry plant is task node block after true e = absurd (by (entry_block plant (contexts.Task task)) refl e)
   where
-    by : (o : Option ℕ) → entry_block plant subject ≡ o → option_map_or (nat_eq block) o false ≡ true → ⊥
+    by : (o : Option ℕ) → entry_block plant (contexts.Task task) ≡ o → option_map_or (nat_eq block) o false ≡ true → ⊥
     by None at is_it = cc
     by (Some entry) at is_it =
-        afters_are_no_entries plant is node (place_of plant.system subject) block after
+        afters_are_no_entries plant is node (place_of plant.system (contexts.Task task)) block after
         (at ∙ ap Some (sym (eqb-true block entry is_it)))
 
-pub behind_visit : (plant : PlantData) (states : List AbsState) → IsPlant plant → (subject : Context) (call : ServiceCall)
-    → WaitsAt plant states subject call.caller (behind plant call) (node_after plant call)
+pub behind_visit : (plant : PlantData) (states : List AbsState) → IsPlant plant → (task : ℕ) (call : ServiceCall)
+    → WaitsAt plant states task call.caller (behind plant call) (node_after plant call)
 unfolding AftersBegin
-behind_visit plant states is subject call column e =
+behind_visit plant states is task call column e =
     let made = made_of Begins (option_and_then (block_behind plant) (node_of plant call.caller call.before)) column e in
     let node = joined (block_behind plant) (node_of plant call.caller call.before) made.0 made.1 in
     let after = joined (λ (behind : Option ℕ). behind) (slice_get plant.blocks.afters node.0) made.0 node.2 in
     let at : slice_get plant.blocks.afters node.0 ≡ Some (Some made.0) = after.1 ∙ ap Some after.2 in
     let begins = there_is (slice_get plant.blocks.blocks made.0) (BeginsBehind plant node.0) (afters_begin plant is node.0 made.0 at) in
-    subst (IsVisit plant states subject (node_after plant call)) made.2 (record {
-      listed = begins_listed plant states subject made.0 (slice_get_within plant.blocks.blocks made.0 begins.item begins.there)
-          (no_entry plant is subject node.0 made.0 at (is_own_entry plant subject made.0) refl);
+    subst (IsVisit plant states task (node_after plant call)) made.2 (record {
+      listed = begins_listed plant states task made.0 (slice_get_within plant.blocks.blocks made.0 begins.item begins.there)
+          (no_entry plant is task node.0 made.0 at (is_own_entry plant task made.0) refl);
       visits = refl;
       at = ap (option_and_then (successor plant.flow)) node.1 ∙ (begins.holds.first ∙ sym (ap (option_map (λ (b : Block). b.begin.first)) begins.there));
     })
 
-answered_visit : (plant : PlantData) (states : List AbsState) → IsPlant plant → (subject : Context) (call : ServiceCall) (ended : Option Context)
-    → WaitsAt plant states subject call.caller (cond (is_some ended) None (behind plant call)) (cond (is_some ended) None (node_after plant call))
-answered_visit plant states is subject call None = behind_visit plant states is subject call
-answered_visit plant states is subject call (Some context) = nobody_waits plant states subject call.caller None
+answered_visit : (plant : PlantData) (states : List AbsState) → IsPlant plant → (task : ℕ) (call : ServiceCall) (ended : Option Context)
+    → WaitsAt plant states task call.caller (cond (is_some ended) None (behind plant call)) (cond (is_some ended) None (node_after plant call))
+answered_visit plant states is task call None = behind_visit plant states is task call
+answered_visit plant states is task call (Some context) = nobody_waits plant states task call.caller None
 
 -- ---- Of the contexts that stand somewhere at the start
 
@@ -160,42 +160,42 @@ first_is {A} g first (Some b) node e = by (g b) e
     by (Some y) at = eq-eqb (first y) node (same_Some (first y) node at)
 
 -- the task stands at its entry
-abbrev pub IsAtEntry : PlantData → Context → ℕ → List Event → Type 0
-IsAtEntry plant subject mode events = (node : ℕ) → position_of plant.system (nodes_after plant mode events) subject ≡ Some node
-    → entry_node plant subject ≡ Some node
+abbrev pub IsAtEntry : PlantData → ℕ → ℕ → List Event → Type 0
+IsAtEntry plant task mode events = (node : ℕ) → position_of plant.system (nodes_after plant mode events) (contexts.Task task) ≡ Some node
+    → entry_node plant (contexts.Task task) ≡ Some node
 
-stands_for : (plant : PlantData) (subject : Context) (node : ℕ) (context : Context) (start : Start) → holds_in plant (state_after plant start) context node ≡ true
-    → (own : Bool) → is_this context (Some subject) ≡ own → (own ≡ true → is_first_of plant subject node ≡ true)
-    → may_stand plant subject node context start ≡ true
-stands_for plant subject node context start held true is first =
-    ap (λ b. b && (not (is_this context (Some subject)) || is_first_of plant subject node)) held
-    ∙ (ap (λ b. not b || is_first_of plant subject node) is ∙ first refl)
-stands_for plant subject node context start held false is first =
-    ap (λ b. b && (not (is_this context (Some subject)) || is_first_of plant subject node)) held
-    ∙ ap (λ b. not b || is_first_of plant subject node) is
+stands_for : (plant : PlantData) (task node : ℕ) (context : Context) (start : Start) → holds_in plant (state_after plant start) context node ≡ true
+    → (own : Bool) → is_this context (Some (contexts.Task task)) ≡ own → (own ≡ true → is_first_of plant task node ≡ true)
+    → may_stand plant task node context start ≡ true
+stands_for plant task node context start held true is first =
+    ap (λ b. b && (not (is_this context (Some (contexts.Task task))) || is_first_of plant task node)) held
+    ∙ (ap (λ b. not b || is_first_of plant task node) is ∙ first refl)
+stands_for plant task node context start held false is first =
+    ap (λ b. b && (not (is_this context (Some (contexts.Task task))) || is_first_of plant task node)) held
+    ∙ ap (λ b. not b || is_first_of plant task node) is
 
-pub standing_visits : (plant : PlantData) (states : List AbsState) (subject : Context) (mode : ℕ) (start : Start) (events : List Event) (state : MachineState)
-    → IsDeclaredCase plant states subject mode events state
-    → Contains (starts plant states subject) start → state_after plant start ≡ shadow_after plant mode events → IsAtEntry plant subject mode events
-    → WaitAtNodes plant states subject (map (λ node. option_map Stands node) (nodes_after plant mode events)) (nodes_after plant mode events)
-standing_visits plant states subject mode start events state case listed same entry context exists column e =
+pub standing_visits : (plant : PlantData) (states : List AbsState) (task mode : ℕ) (start : Start) (events : List Event) (state : MachineState)
+    → IsDeclaredCase plant states task mode events state
+    → Contains (starts plant states task) start → state_after plant start ≡ shadow_after plant mode events → IsAtEntry plant task mode events
+    → WaitAtNodes plant states task (map (λ node. option_map Stands node) (nodes_after plant mode events)) (nodes_after plant mode events)
+standing_visits plant states task mode start events state case listed same entry context exists column e =
     let here : option_map Stands (position_of plant.system (nodes_after plant mode events) context) ≡ Some column =
     sym (get_or-map (λ node. option_map Stands node) (nodes_after plant mode events) (place_of plant.system context) None) ∙ e in
     let made = made_of Stands (position_of plant.system (nodes_after plant mode events) context) column here in
     let node : ℕ = made.0 in
-    let stands = stands_here plant states subject mode events state context node case exists made.1 in
+    let stands = stands_here plant states task mode events state context node case exists made.1 in
     let held : holds_in plant (state_after plant start) context node ≡ true =
-    ap (λ (s : AbsState). holds_in plant s context node) same ∙ shadow_holds plant states subject mode events state context node case stands in
-    let may : may_stand plant subject node context start ≡ true =
-    stands_for plant subject node context start held (is_this context (Some subject)) refl (λ own.
-    let who : context ≡ subject = sym (same_Some subject context (this_is context (Some subject) own)) in
-    first_is (slice_get plant.blocks.blocks) (λ b. b.begin.first) (entry_block plant subject) node
+    ap (λ (s : AbsState). holds_in plant s context node) same ∙ shadow_holds plant states task mode events state context node case stands in
+    let may : may_stand plant task node context start ≡ true =
+    stands_for plant task node context start held (is_this context (Some (contexts.Task task))) refl (λ own.
+    let who : context ≡ contexts.Task task = sym (same_Some (contexts.Task task) context (this_is context (Some (contexts.Task task)) own)) in
+    first_is (slice_get plant.blocks.blocks) (λ b. b.begin.first) (entry_block plant (contexts.Task task)) node
     (entry node (ap (position_of plant.system (nodes_after plant mode events)) (sym who) ∙ made.1))) in
-    subst (IsVisit plant states subject (position_of plant.system (nodes_after plant mode events) context)) made.2 (record {
-      listed = stands_listed plant states subject node (node_within plant mode events state context node stands)
-          (ap (λ (o : Option Context). option_map_or (λ c. list_any (may_stand plant subject node c) (starts plant states subject)) o false)
+    subst (IsVisit plant states task (position_of plant.system (nodes_after plant mode events) context)) made.2 (record {
+      listed = stands_listed plant states task node (node_within plant mode events state context node stands)
+          (ap (λ (o : Option Context). option_map_or (λ c. list_any (may_stand plant task node c) (starts plant states task)) o false)
           (owner_is plant mode events state context node exists stands)
-          ∙ any_member (may_stand plant subject node context) (starts plant states subject) start listed may);
+          ∙ any_member (may_stand plant task node context) (starts plant states task) start listed may);
       visits = refl;
       at = made.1;
     })
@@ -203,48 +203,48 @@ standing_visits plant states subject mode start events state case listed same en
 -- ---- After a step
 
 -- after a step that doesn't start the task, before the running context's visit is used
-pub step_visits : (plant : PlantData) (states : List AbsState) (subject : Context) (mode : ℕ) (event : Event) (earlier : List Event) (before after : MachineState)
-    (waiting : List (Option Column)) → IsLater plant states subject mode event earlier before after
-    → is_this subject (started_by event) ≡ false
+pub step_visits : (plant : PlantData) (states : List AbsState) (task mode : ℕ) (event : Event) (earlier : List Event) (before after : MachineState)
+    (waiting : List (Option Column)) → IsLater plant states task mode event earlier before after
+    → is_this (contexts.Task task) (started_by event) ≡ false
     → length waiting ≡ context_count plant.system
     → ((context : Context) → running_after plant mode earlier ≡ Some context → position_of plant.system waiting context ≡ None)
-    → WaitAtNodes plant states subject waiting (nodes_after plant mode earlier)
-    → WaitAtNodes plant states subject (waiting_after plant event waiting) (nodes_after plant mode (event ∷ earlier))
-step_visits plant states subject mode (Arrive arrival) earlier before after waiting later new count ran wait = wait
-step_visits plant states subject mode (Take taking) earlier before after waiting later new count ran wait =
-    both_started plant.system (WaitsAt plant states subject) (entered plant) (entry_node plant) taking.started waiting (nodes_after plant mode earlier)
-    (λ d e. who_exists plant later.case.of.belongs taking before after (covers_of plant states subject mode earlier before later.case).room later.step d
+    → WaitAtNodes plant states task waiting (nodes_after plant mode earlier)
+    → WaitAtNodes plant states task (waiting_after plant event waiting) (nodes_after plant mode (event ∷ earlier))
+step_visits plant states task mode (Arrive arrival) earlier before after waiting later new count ran wait = wait
+step_visits plant states task mode (Take taking) earlier before after waiting later new count ran wait =
+    both_started plant.system (WaitsAt plant states task) (entered plant) (entry_node plant) taking.started waiting (nodes_after plant mode earlier)
+    (λ d e. who_exists plant later.case.of.belongs taking before after (covers_of plant states task mode earlier before later.case).room later.step d
     (sym later.step.started ∙ e))
     count (nodes_count plant mode earlier)
-    (λ d e exists. entered_visit plant states later.case.of.belongs subject d later.case.exists exists (λ same.
-    let wrong : true ≡ false = sym (is_this_one subject taking.started (e ∙ ap Some same)) ∙ new in cc)) wait
-step_visits plant states subject mode (Execute execution) earlier before after waiting later new count ran wait =
+    (λ d e exists. entered_visit plant states later.case.of.belongs task d later.case.exists exists (λ same.
+    let wrong : true ≡ false = sym (is_this_one (contexts.Task task) taking.started (e ∙ ap Some same)) ∙ new in cc)) wait
+step_visits plant states task mode (Execute execution) earlier before after waiting later new count ran wait =
     let exists : IsContext plant.system execution.context =
-    running_exists plant.system before execution.context (covers_of plant states subject mode earlier before later.case).room later.step.running in
+    running_exists plant.system before execution.context (covers_of plant states task mode earlier before later.case).room later.step.running in
     let free : position_of plant.system waiting execution.context ≡ None =
     ran execution.context (ap (runs plant.system) (kernel_is plant mode earlier before later.case.of.run) ∙ later.step.running) in
-    second_placed plant.system (WaitsAt plant states subject) execution.context (node_of plant execution.context execution.after) waiting
+    second_placed plant.system (WaitsAt plant states task) execution.context (node_of plant execution.context execution.after) waiting
     (nodes_after plant mode earlier) exists (nodes_count plant mode earlier)
-    (subst (λ (w : Option Column). WaitsAt plant states subject execution.context w (node_of plant execution.context execution.after)) (sym free)
-    (nobody_waits plant states subject execution.context (node_of plant execution.context execution.after))) wait
-step_visits plant states subject mode (Serve call) earlier before after waiting later new count ran wait =
-    both_answered plant.system (WaitsAt plant states subject) (entered plant) (entry_node plant) call.caller (behind plant call) (node_after plant call)
+    (subst (λ (w : Option Column). WaitsAt plant states task execution.context w (node_of plant execution.context execution.after)) (sym free)
+    (nobody_waits plant states task execution.context (node_of plant execution.context execution.after))) wait
+step_visits plant states task mode (Serve call) earlier before after waiting later new count ran wait =
+    both_answered plant.system (WaitsAt plant states task) (entered plant) (entry_node plant) call.caller (behind plant call) (node_after plant call)
     call.reply waiting (nodes_after plant mode earlier)
     (λ d e. activated_exists plant.system (served_by plant.system call before).reply.activated
     (served_exists plant.system before.kernel call.caller call.service (argument_in call.before) later.step.argument) d
     (ap (λ (r : Reply). option_map contexts.Task r.activated) (sym later.step.replied) ∙ e))
-    (running_exists plant.system before call.caller (covers_of plant states subject mode earlier before later.case).room later.step.running)
+    (running_exists plant.system before call.caller (covers_of plant states task mode earlier before later.case).room later.step.running)
     count (nodes_count plant mode earlier)
-    (λ d e exists. entered_visit plant states later.case.of.belongs subject d later.case.exists exists (λ same.
-    let wrong : true ≡ false = sym (is_this_one subject (started_by (Serve call)) (e ∙ ap Some same)) ∙ new in cc))
-    (answered_visit plant states later.case.of.belongs subject call call.reply.ended) wait
-step_visits plant states subject mode (Idle cycles) earlier before after waiting later new count ran wait = wait
+    (λ d e exists. entered_visit plant states later.case.of.belongs task d later.case.exists exists (λ same.
+    let wrong : true ≡ false = sym (is_this_one (contexts.Task task) (started_by (Serve call)) (e ∙ ap Some same)) ∙ new in cc))
+    (answered_visit plant states later.case.of.belongs task call call.reply.ended) wait
+step_visits plant states task mode (Idle cycles) earlier before after waiting later new count ran wait = wait
 
 -- where the visit of the context that runs is used
-pub run_in_visits : (plant : PlantData) (states : List AbsState) (subject : Context) (who : Option Context) (window : Window) (nodes : List (Option ℕ))
+pub run_in_visits : (plant : PlantData) (states : List AbsState) (task : ℕ) (who : Option Context) (window : Window) (nodes : List (Option ℕ))
     → ((c : Context) → who ≡ Some c → IsContext plant.system c) → length window.waiting ≡ context_count plant.system
-    → WaitAtNodes plant states subject window.waiting nodes → WaitAtNodes plant states subject (run_in plant who window).waiting nodes
-run_in_visits plant states subject None window nodes exist count wait = wait
-run_in_visits plant states subject (Some context) window nodes exist count wait =
-    first_placed plant.system (WaitsAt plant states subject) context None window.waiting nodes (exist context refl) count
-    (nobody_waits plant states subject context (position_of plant.system nodes context)) wait
+    → WaitAtNodes plant states task window.waiting nodes → WaitAtNodes plant states task (run_in plant who window).waiting nodes
+run_in_visits plant states task None window nodes exist count wait = wait
+run_in_visits plant states task (Some context) window nodes exist count wait =
+    first_placed plant.system (WaitsAt plant states task) context None window.waiting nodes (exist context refl) count
+    (nobody_waits plant states task context (position_of plant.system nodes context)) wait

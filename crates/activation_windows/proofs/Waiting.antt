@@ -36,12 +36,12 @@ holds_some plant block number node e has =
     ∙ (ap (λ (o : Option Block). option_map_or (λ b. holds b.nodes node) o false) there.there ∙ there.holds)
 
 -- the node that the steps tell of a context is one of its own, in its block
-node_stands : (plant : PlantData) (states : List AbsState) (subject : Context) (mode : ℕ) (events : List Event) (state : MachineState)
-    → IsDeclaredCase plant states subject mode events state → (c : Context) (number : ℕ) → IsContext plant.system c
+node_stands : (plant : PlantData) (states : List AbsState) (task mode : ℕ) (events : List Event) (state : MachineState)
+    → IsDeclaredCase plant states task mode events state → (c : Context) (number : ℕ) → IsContext plant.system c
     → position_of plant.system (nodes_after plant mode events) c ≡ Some number
     → StandsThere plant (position_of plant.system (begun plant mode events) c) c number
-node_stands plant states subject mode events state case c number exists at =
-    let here = stands_here plant states subject mode events state c number case exists at in
+node_stands plant states task mode events state case c number exists at =
+    let here = stands_here plant states task mode events state c number case exists at in
     record {
       owner = owner_is plant mode events state c number exists here;
       inside = holds_some plant (position_of plant.system (begun plant mode events) c) here.block number here.began here.inside;
@@ -58,38 +58,38 @@ stands_of plant block c None visit e stands = absurd (none-some visit e)
 stands_of plant block c (Some number) visit e stands =
     subst (λ (v : Column). IsVisit plant block c v) (same_Some (Stands number) visit e) (stands number refl)
 
-pub opening_waits : (plant : PlantData) (states : List AbsState) (subject : Context) (mode : ℕ) (events : List Event) (state : MachineState)
-    → IsDeclaredCase plant states subject mode events state → Wait plant (begun plant mode events) (standing_visits plant mode events)
-opening_waits plant states subject mode events state case = record {
+pub opening_waits : (plant : PlantData) (states : List AbsState) (task mode : ℕ) (events : List Event) (state : MachineState)
+    → IsDeclaredCase plant states task mode events state → Wait plant (begun plant mode events) (standing_visits plant mode events)
+opening_waits plant states task mode events state case = record {
   count = length-map (nodes_after plant mode events) (λ (node : Option ℕ). option_map Stands node) ∙ nodes_count plant mode events;
   visits = λ c visit exists at.
       stands_of plant (position_of plant.system (begun plant mode events) c) c (position_of plant.system (nodes_after plant mode events) c) visit
       (sym (get_or-map (λ (node : Option ℕ). option_map Stands node) (nodes_after plant mode events) (place_of plant.system c) None) ∙ at)
-      (λ number e. node_stands plant states subject mode events state case c number exists e);
+      (λ number e. node_stands plant states task mode events state case c number exists e);
 }
 
 -- ---- In every open window
 
-pub waits_in : (plant : PlantData) (states : List AbsState) (subject : Context) (mode : ℕ)
-    → Inducts plant states subject mode (λ events state window. Wait plant (begun plant mode events) window.waiting)
-waits_in plant states subject mode = record {
+pub waits_in : (plant : PlantData) (states : List AbsState) (task mode : ℕ)
+    → Inducts plant states task mode (λ events state window. Wait plant (begun plant mode events) window.waiting)
+waits_in plant states task mode = record {
   starts = λ state case is. run_waits plant (begun plant mode []) (running_after plant mode [])
       (record { uses = option_to_list (Some (Starts (In mode))); waiting = standing_visits plant mode [] })
-      (told_of plant states subject mode [] state case).running (opening_waits plant states subject mode [] state case);
+      (told_of plant states task mode [] state case).running (opening_waits plant states task mode [] state case);
   begins = λ event earlier before after later is. run_waits plant (begun plant mode (event ∷ earlier)) (running_after plant mode (event ∷ earlier))
       (record { uses = option_to_list (start_by plant mode event earlier); waiting = standing_visits plant mode (event ∷ earlier) })
-      (told_of plant states subject mode (event ∷ earlier) after later.whole).running
-      (opening_waits plant states subject mode (event ∷ earlier) after later.whole);
+      (told_of plant states task mode (event ∷ earlier) after later.whole).running
+      (opening_waits plant states task mode (event ∷ earlier) after later.whole);
   goes_on = λ event earlier before after window later new on is_open waits. run_waits plant (begun plant mode (event ∷ earlier))
       (running_after plant mode (event ∷ earlier)) _
-      (told_of plant states subject mode (event ∷ earlier) after later.whole).running
-      (after_waits plant mode event earlier window.waiting (contexts_exist plant states subject mode event earlier before after later)
-      (told_of plant states subject mode earlier before later.case).positions.count waits);
+      (told_of plant states task mode (event ∷ earlier) after later.whole).running
+      (after_waits plant mode event earlier window.waiting (contexts_exist plant states task mode event earlier before after later)
+      (told_of plant states task mode earlier before later.case).positions.count waits);
 }
 
-pub open_waits : (plant : PlantData) (states : List AbsState) (subject : Context) (mode : ℕ) (events : List Event) (state : MachineState) (window : Window)
-    → IsDeclaredCase plant states subject mode events state → open_window plant subject mode events ≡ Some window
+pub open_waits : (plant : PlantData) (states : List AbsState) (task mode : ℕ) (events : List Event) (state : MachineState) (window : Window)
+    → IsDeclaredCase plant states task mode events state → open_window plant task mode events ≡ Some window
     → Wait plant (begun plant mode events) window.waiting
-open_waits plant states subject mode events state window case e =
-    of_open plant states subject mode (λ events state window. Wait plant (begun plant mode events) window.waiting)
-    (waits_in plant states subject mode) events state window case e
+open_waits plant states task mode events state window case e =
+    of_open plant states task mode (λ events state window. Wait plant (begun plant mode events) window.waiting)
+    (waits_in plant states task mode) events state window case e

@@ -1,6 +1,6 @@
--- What every open window keeps: its subject is active, there is one place a context, and the context that runs doesn't
+-- What every open window keeps: its task is active, there is one place a context, and the context that runs doesn't
 -- wait.
-use Rattle.std.proofs.Common.{◌≡◌, ℕ, true, false, List, [], ◌∷◌, length, map, Option, Some, None, refl, sym, ◌∙◌, ap, subst, ◌<◌, arith}
+use Rattle.std.proofs.Common.{◌≡◌, ℕ, true, false, List, [], ◌∷◌, length, map, Option, Some, None, refl, sym, ◌∙◌, ap, subst, arith}
 use Rattle.std.specs.Prelude.{is_some, option_map}
 use Rattle.std.proofs.lemmas.List.{length-map}
 use Rattle.std.proofs.lemmas.List.FromFn.{length-map-range_with_len}
@@ -22,14 +22,12 @@ use Rattle.osek_kernel.proofs.Theorems.{the_first_runs, dispatch_keeps_active}
 use Rattle.osek_machine.specs.State.{MachineState}
 use Rattle.osek_machine.specs.Events.{Event, Taking, ServiceCall, Arrive, Take, Execute, Serve, Idle, started_by, ended_by}
 use Rattle.osek_machine.specs.Loops.{is_this}
-use Rattle.osek_machine.specs.Runs.{IsRun}
 use Rattle.osek_machine.specs.Steps.{Step, Takes, Serves, taken_by, served_by, argument_in}
 use Rattle.osek_machine.proofs.Kept.{takes_active, open_none, running_exists}
 use Rattle.osek_machine.proofs.Placing.{placed_here, placed_count}
 use Rattle.wcet_atomic_blocks.specs.Plants.{PlantData}
 use Rattle.abstract_sched.specs.declared.states.AbsState.{AbsState}
 use Rattle.scheduler_moves.specs.Moves.{is_active}
-use Rattle.shadow_runs.proofs.Begun.{active_test}
 use Rattle.row_build.specs.Columns.{Column, Starts, In, Stands}
 use Rattle.activation_windows.specs.Counted.{IsDeclaredCase}
 use Rattle.activation_windows.specs.Windows.{Window, running_after, nodes_after, entry_node, start_node, node_after, waiting_after, run_in, opened, gone_on, open_window, start_by}
@@ -74,10 +72,10 @@ run_in_count plant (Some context) window = placed_count plant.system context Non
 
 -- ---- The context that runs exists, and doesn't wait
 
-pub runner_exists : (plant : PlantData) (states : List AbsState) (subject : Context) (mode : ℕ) (events : List Event) (state : MachineState) (context : Context)
-    → IsDeclaredCase plant states subject mode events state → running_after plant mode events ≡ Some context → IsContext plant.system context
-runner_exists plant states subject mode events state context case e =
-    running_exists plant.system state context (covers_of plant states subject mode events state case).room
+pub runner_exists : (plant : PlantData) (states : List AbsState) (task mode : ℕ) (events : List Event) (state : MachineState) (context : Context)
+    → IsDeclaredCase plant states task mode events state → running_after plant mode events ≡ Some context → IsContext plant.system context
+runner_exists plant states task mode events state context case e =
+    running_exists plant.system state context (covers_of plant states task mode events state case).room
     (ap (runs plant.system) (sym (kernel_is plant mode events state case.of.run)) ∙ e)
 
 run_in_ran : (plant : PlantData) (who : Option Context) (window : Window) (context : Context) → who ≡ Some context → IsContext plant.system context
@@ -87,12 +85,10 @@ run_in_ran plant (Some other) window context e exists count =
     ap (λ (c : Context). position_of plant.system (placed plant.system c None window.waiting) context) (same_Some other context e)
     ∙ placed_here plant.system context None window.waiting exists count
 
--- ---- The subject stays active
+-- ---- The task stays active
 
-pub initially_active : (plant : PlantData) (mode : ℕ) (subject : Context) (state : MachineState) → IsRun plant.image plant.system mode [] state
-    → is_active (kernels.initial plant.system mode) subject ≡ true → IsActive state.kernel subject
-initially_active plant mode subject state run is =
-    subst (λ (k : Kernel). IsActive k subject) (kernel_is plant mode [] state run) ((active_test (kernels.initial plant.system mode) subject).0 is)
+at_start : (kernel : Kernel) (task : ℕ) → is_active kernel (contexts.Task task) ≡ true → IsActive kernel (contexts.Task task)
+at_start kernel task e = e
 
 -- after a source is taken
 pub take_active : (system : System) (taking : Taking) (before : MachineState) → (image : _) (after : MachineState)
@@ -121,89 +117,82 @@ stays_active plant (Serve call) before after context step on is = subst (λ (s :
     (λ ends. on (ap (λ (r : Reply). r.ended) step.replied ∙ ends))))
 stays_active plant (Idle cycles) before after context step on is = subst (λ (s : MachineState). IsActive s.kernel context) (sym step.becomes) is
 
--- a service starts no context but a task
-pub activated_task : (activated : Option ℕ) (c : Context) → option_map contexts.Task activated ≡ Some c → (t : ℕ) × (activated ≡ Some t) × (c ≡ contexts.Task t)
-activated_task None c e = absurd (none-some c e)
-activated_task (Some t) c e = (t, refl, sym (same_Some (contexts.Task t) c e))
+activated_is : (t u : Option ℕ) (task : ℕ) → option_map contexts.Task t ≡ Some (contexts.Task task) → t ≡ Some task
+activated_is None u task e = absurd (none-some (contexts.Task task) e)
+activated_is (Some t) u task e = let same : contexts.Task t ≡ contexts.Task task = same_Some (contexts.Task t) (contexts.Task task) e in ap Some cc
 
-taken_active : (system : System) (kernel : Kernel) (after : kernels.Taken) (c : Context) → TakesActive kernel after
-    → length kernel.tasks ≡ length system.tasks → IsContext system c → after.started ≡ Some c → IsActive after.kernel c
-taken_active system kernel after (contexts.Task t) takes count exists e = ap is_some (takes.begins t (omega arith) e)
-taken_active system kernel after (contexts.Isr i) takes count exists e = takes.isr i e
-
--- a context that a step starts is active behind it
-pub started_active : (plant : PlantData) (states : List AbsState) (subject : Context) (mode : ℕ) (event : Event) (earlier : List Event) (before after : MachineState)
-    → IsLater plant states subject mode event earlier before after
-    → started_by event ≡ Some subject → IsActive after.kernel subject
-started_active plant states subject mode (Arrive arrival) earlier before after later e = absurd (none-some subject e)
-started_active plant states subject mode (Take taking) earlier before after later e =
-    subst (λ (s : MachineState). IsActive s.kernel subject) (sym later.step.becomes)
-    ((dispatch_keeps_active plant.system (taken_by plant.system taking.source before).kernel).stays subject
-    (taken_active plant.system before.kernel (taken_by plant.system taking.source before) subject
-    (take_active plant.system taking before plant.image after later.step)
-    (covers_of plant states subject mode earlier before later.case).room.tasks later.case.exists (sym later.step.started ∙ e)))
-started_active plant states subject mode (Execute execution) earlier before after later e = absurd (none-some subject e)
-started_active plant states subject mode (Serve call) earlier before after later e =
-    let tasks = (covers_of plant states subject mode earlier before later.case).room.tasks in
+-- a task that a step starts is active behind it
+pub started_active : (plant : PlantData) (states : List AbsState) (task mode : ℕ) (event : Event) (earlier : List Event) (before after : MachineState)
+    → IsLater plant states task mode event earlier before after
+    → started_by event ≡ Some (contexts.Task task) → IsActive after.kernel (contexts.Task task)
+started_active plant states task mode (Arrive arrival) earlier before after later e = absurd (none-some (contexts.Task task) e)
+started_active plant states task mode (Take taking) earlier before after later e =
+    let tasks = (covers_of plant states task mode earlier before later.case).room.tasks in
+    subst (λ (s : MachineState). IsActive s.kernel (contexts.Task task)) (sym later.step.becomes)
+    ((dispatch_keeps_active plant.system (taken_by plant.system taking.source before).kernel).stays (contexts.Task task)
+    (ap is_some ((take_active plant.system taking before plant.image after later.step).begins task
+    (let within = later.case.exists in omega arith) (sym later.step.started ∙ e))))
+started_active plant states task mode (Execute execution) earlier before after later e = absurd (none-some (contexts.Task task) e)
+started_active plant states task mode (Serve call) earlier before after later e =
+    let tasks = (covers_of plant states task mode earlier before later.case).room.tasks in
     let done = served_by plant.system call before in
-    let is = activated_task done.reply.activated subject (ap (λ (r : Reply). option_map contexts.Task r.activated) (sym later.step.replied) ∙ e) in
-    let within : is.0 < length plant.system.tasks = subst (IsContext plant.system) is.2 later.case.exists in
-    subst (λ (s : MachineState). IsActive s.kernel subject) (sym later.step.becomes)
-    ((dispatch_keeps_active plant.system done.kernel).stays subject
-    (subst (IsActive done.kernel) (sym is.2)
-    (ap is_some ((serve_active plant.system call before plant.image after later.step).begins is.0 (omega arith) is.1))))
-started_active plant states subject mode (Idle cycles) earlier before after later e = absurd (none-some subject e)
+    subst (λ (s : MachineState). IsActive s.kernel (contexts.Task task)) (sym later.step.becomes)
+    ((dispatch_keeps_active plant.system done.kernel).stays (contexts.Task task)
+    (ap is_some ((serve_active plant.system call before plant.image after later.step).begins task
+    (let within = later.case.exists in omega arith)
+    (activated_is done.reply.activated None task (ap (λ (r : Reply). option_map contexts.Task r.activated) (sym later.step.replied) ∙ e)))))
+started_active plant states task mode (Idle cycles) earlier before after later e = absurd (none-some (contexts.Task task) e)
 
 -- ---- Every open window
 
 -- What every open window keeps.
-pub record IsWhole (plant : PlantData) (subject : Context) (mode : ℕ) (events : List Event) (state : MachineState) (window : Window) : Type 0 where
-  pub active : IsActive state.kernel subject
+pub record IsWhole (plant : PlantData) (task mode : ℕ) (events : List Event) (state : MachineState) (window : Window) : Type 0 where
+  pub active : IsActive state.kernel (contexts.Task task)
   pub count : length window.waiting ≡ context_count plant.system
   pub ran : (context : Context) → running_after plant mode events ≡ Some context → position_of plant.system window.waiting context ≡ None
 
-pub goes_unended : (subject : Context) (event : Event) → is_this subject (ended_by event) ≡ false → ended_by event ≡ Some subject → ⊥
-goes_unended subject event is e = let wrong : true ≡ false = sym (is_this_one subject (ended_by event) e) ∙ is in cc
+pub goes_unended : (task : ℕ) (event : Event) → is_this (contexts.Task task) (ended_by event) ≡ false → ended_by event ≡ Some (contexts.Task task) → ⊥
+goes_unended task event is e = let wrong : true ≡ false = sym (is_this_one (contexts.Task task) (ended_by event) e) ∙ is in cc
 
-opened_whole : (plant : PlantData) (states : List AbsState) (subject : Context) (mode : ℕ) (start : Option Column) (events : List Event) (state : MachineState)
-    → IsDeclaredCase plant states subject mode events state → IsActive state.kernel subject
-    → IsWhole plant subject mode events state (opened plant mode start events)
-opened_whole plant states subject mode start events state case is =
+opened_whole : (plant : PlantData) (states : List AbsState) (task mode : ℕ) (start : Option Column) (events : List Event) (state : MachineState)
+    → IsDeclaredCase plant states task mode events state → IsActive state.kernel (contexts.Task task)
+    → IsWhole plant task mode events state (opened plant mode start events)
+opened_whole plant states task mode start events state case is =
     let count : length (map (λ (node : Option ℕ). option_map Stands node) (nodes_after plant mode events)) ≡ context_count plant.system =
     length-map (nodes_after plant mode events) (λ (node : Option ℕ). option_map Stands node) ∙ nodes_count plant mode events in
     record {
       active = is;
       count = run_in_count plant (running_after plant mode events) _ ∙ count;
       ran = λ context e. run_in_ran plant (running_after plant mode events) _ context e
-          (runner_exists plant states subject mode events state context case e) count;
+          (runner_exists plant states task mode events state context case e) count;
     }
 
-gone_on_whole : (plant : PlantData) (states : List AbsState) (subject : Context) (mode : ℕ) (event : Event) (earlier : List Event) (before after : MachineState)
+gone_on_whole : (plant : PlantData) (states : List AbsState) (task mode : ℕ) (event : Event) (earlier : List Event) (before after : MachineState)
     (window : Window)
-    → IsLater plant states subject mode event earlier before after
-    → is_this subject (ended_by event) ≡ false → IsWhole plant subject mode earlier before window
-    → IsWhole plant subject mode (event ∷ earlier) after (gone_on plant mode event earlier window)
-gone_on_whole plant states subject mode event earlier before after window later on was =
+    → IsLater plant states task mode event earlier before after
+    → is_this (contexts.Task task) (ended_by event) ≡ false → IsWhole plant task mode earlier before window
+    → IsWhole plant task mode (event ∷ earlier) after (gone_on plant mode event earlier window)
+gone_on_whole plant states task mode event earlier before after window later on was =
     let count = waiting_count plant event window.waiting ∙ was.count in
     record {
-      active = stays_active plant event before after subject later.step (goes_unended subject event on) was.active;
+      active = stays_active plant event before after (contexts.Task task) later.step (goes_unended task event on) was.active;
       count = run_in_count plant (running_after plant mode (event ∷ earlier)) _ ∙ count;
       ran = λ context e. run_in_ran plant (running_after plant mode (event ∷ earlier)) _ context e
-          (runner_exists plant states subject mode (event ∷ earlier) after context later.whole e) count;
+          (runner_exists plant states task mode (event ∷ earlier) after context later.whole e) count;
     }
 
-pub windows_are_whole : (plant : PlantData) (states : List AbsState) (subject : Context) (mode : ℕ) → Inducts plant states subject mode (IsWhole plant subject mode)
-windows_are_whole plant states subject mode = record {
-  starts = λ state case is. opened_whole plant states subject mode (Some (Starts (In mode))) [] state case
-      (initially_active plant mode subject state case.of.run is);
-  begins = λ event earlier before after later is. opened_whole plant states subject mode (start_by plant mode event earlier) (event ∷ earlier) after later.whole
-      (started_active plant states subject mode event earlier before after later is);
-  goes_on = λ event earlier before after window later new on is_open was. gone_on_whole plant states subject mode event earlier before after window
+pub windows_are_whole : (plant : PlantData) (states : List AbsState) (task mode : ℕ) → Inducts plant states task mode (IsWhole plant task mode)
+windows_are_whole plant states task mode = record {
+  starts = λ state case is. opened_whole plant states task mode (Some (Starts (In mode))) [] state case
+      (subst (λ (k : Kernel). IsActive k (contexts.Task task)) (kernel_is plant mode [] state case.of.run) is);
+  begins = λ event earlier before after later is. opened_whole plant states task mode (start_by plant mode event earlier) (event ∷ earlier) after later.whole
+      (started_active plant states task mode event earlier before after later is);
+  goes_on = λ event earlier before after window later new on is_open was. gone_on_whole plant states task mode event earlier before after window
       later on was;
 }
 
-pub is_whole : (plant : PlantData) (states : List AbsState) (subject : Context) (mode : ℕ) (events : List Event) (state : MachineState) (window : Window)
-    → IsDeclaredCase plant states subject mode events state → open_window plant subject mode events ≡ Some window
-    → IsWhole plant subject mode events state window
-is_whole plant states subject mode events state window case e =
-    of_open plant states subject mode (IsWhole plant subject mode) (windows_are_whole plant states subject mode) events state window case e
+pub is_whole : (plant : PlantData) (states : List AbsState) (task mode : ℕ) (events : List Event) (state : MachineState) (window : Window)
+    → IsDeclaredCase plant states task mode events state → open_window plant task mode events ≡ Some window
+    → IsWhole plant task mode events state window
+is_whole plant states task mode events state window case e =
+    of_open plant states task mode (IsWhole plant task mode) (windows_are_whole plant states task mode) events state window case e

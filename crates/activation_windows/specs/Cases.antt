@@ -1,5 +1,4 @@
--- Worked windows: a task that is active at the start calls a service, an ISR is taken and ends, and the task ends. The
--- windows are the task's and the ISR's.
+-- Worked windows: a task that is active at the start calls a service, an ISR is taken and ends, and the task ends.
 use Rattle.std.specs.Prelude.{◌≡◌, ℕ, false, List, [], ◌∷◌, Option, Some, None, refl}
 use Rattle.elf_image.specs.Image.{ImageData}
 use Rattle.oil_model.specs.declared.system.System.{System}
@@ -19,7 +18,7 @@ use Rattle.wcet_atomic_blocks.specs.Plants.{PlantData}
 use Rattle.abstract_sched.specs.declared.states.AbsState.{AbsState}
 use Rattle.abstract_sched.specs.declared.states.TaskAt.TheVariants.{Suspended, At}
 use Rattle.scheduler_moves.specs.declared.moves.MoveLabel.TheVariants as labels
-use Rattle.row_build.specs.Columns.{Going, Column, In, By, Starts, Moves, Begins, Stands}
+use Rattle.row_build.specs.Columns.{Going, Column, In, Starts, Moves, Begins, Stands}
 use Rattle.activation_windows.specs.Windows.{Window, open_window, closed_uses}
 
 -- ---- A task that asks for service 12 in a function, and an ISR
@@ -112,51 +111,36 @@ abbrev has_used : List Column → Option Window
 has_used uses = Some (record { uses = uses; waiting = None ∷ None ∷ [] })
 
 -- the task runs at once, from the node of its entry
-opened_case : (image : ImageData) (timing : Timing) → open_window (plant_of image timing) (contexts.Task 0) 0 [] ≡ has_used (Stands 0 ∷ Starts (In 0) ∷ [])
+opened_case : (image : ImageData) (timing : Timing) → open_window (plant_of image timing) 0 0 [] ≡ has_used (Stands 0 ∷ Starts (In 0) ∷ [])
 opened_case image timing = refl
 
 -- it runs on in the block behind the service
 called_case
     : (image : ImageData) (timing : Timing)
-    → open_window (plant_of image timing) (contexts.Task 0) 0 (Serve call ∷ []) ≡ has_used (Begins 1 ∷ Moves calling ∷ Stands 0 ∷ Starts (In 0) ∷ [])
+    → open_window (plant_of image timing) 0 0 (Serve call ∷ []) ≡ has_used (Begins 1 ∷ Moves calling ∷ Stands 0 ∷ Starts (In 0) ∷ [])
 called_case image timing = refl
 
 -- the ISR runs in the block of its entry
 interrupted_case
     : (image : ImageData) (timing : Timing)
-    → open_window (plant_of image timing) (contexts.Task 0) 0 (Take interrupt ∷ Serve call ∷ [])
+    → open_window (plant_of image timing) 0 0 (Take interrupt ∷ Serve call ∷ [])
     ≡ has_used (Begins 2 ∷ Moves interrupting ∷ Begins 1 ∷ Moves calling ∷ Stands 0 ∷ Starts (In 0) ∷ [])
 interrupted_case image timing = refl
 
 -- it ends, and the task runs on in the block that it has begun
 resumed_case
     : (image : ImageData) (timing : Timing)
-    → open_window (plant_of image timing) (contexts.Task 0) 0 (Serve isr_end ∷ Take interrupt ∷ Serve call ∷ [])
+    → open_window (plant_of image timing) 0 0 (Serve isr_end ∷ Take interrupt ∷ Serve call ∷ [])
     ≡ has_used (Moves isr_ending ∷ Begins 2 ∷ Moves interrupting ∷ Begins 1 ∷ Moves calling ∷ Stands 0 ∷ Starts (In 0) ∷ [])
 resumed_case image timing = refl
 
 -- the task ends by one more move, and its window is closed
 closed_case
     : (image : ImageData) (timing : Timing)
-    → closed_uses (plant_of image timing) (contexts.Task 0) 0 (Serve task_end) (Serve call ∷ [])
+    → closed_uses (plant_of image timing) 0 0 (Serve task_end) (Serve call ∷ [])
     ≡ Some (Moves task_ending ∷ Begins 1 ∷ Moves calling ∷ Stands 0 ∷ Starts (In 0) ∷ [])
 closed_case image timing = refl
 
--- the window of the ISR: it stands at the node of its entry, and ends by its one move
-isr_case
-    : (image : ImageData) (timing : Timing)
-    → open_window (plant_of image timing) (contexts.Isr 0) 0 (Take interrupt ∷ Serve call ∷ []) ≡ Some (record {
-      uses = Stands 4 ∷ Starts (By interrupting) ∷ [];
-      waiting = Some (Stands 3) ∷ None ∷ [];
-    })
-isr_case image timing = refl
-
-isr_closed_case
-    : (image : ImageData) (timing : Timing)
-    → closed_uses (plant_of image timing) (contexts.Isr 0) 0 (Serve isr_end) (Take interrupt ∷ Serve call ∷ [])
-    ≡ Some (Moves isr_ending ∷ Stands 4 ∷ Starts (By interrupting) ∷ [])
-isr_closed_case image timing = refl
-
 nothing_open_case
-    : (image : ImageData) (timing : Timing) → open_window (plant_of image timing) (contexts.Task 0) 0 (Serve task_end ∷ Serve call ∷ []) ≡ None
+    : (image : ImageData) (timing : Timing) → open_window (plant_of image timing) 0 0 (Serve task_end ∷ Serve call ∷ []) ≡ None
 nothing_open_case image timing = refl

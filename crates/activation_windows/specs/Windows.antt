@@ -1,11 +1,12 @@
--- The window of an activation of a context, the subject, in a run of the OSEK machine, and the columns that it uses. A
--- window opens with the step that makes the subject active, or with the run, and it closes with the step that ends the
--- subject. Runs are given by their steps, of which the newest stands first.
+-- The window of an activation in a run of the OSEK machine, and the columns that it uses. A window opens with the step
+-- that makes the task active, or with the run, and it closes with the step that ends the task. Runs are given by their
+-- steps, of which the newest stands first.
 use Rattle.std.specs.Prelude.{ℕ, List, [], ◌∷◌, ◌++◌, map, slice_get, Option, Some, None, option_map, option_and_then, option_to_list, if◌then◌else◌}
 use Rattle.std.specs.List.{range_with_len}
 use Rattle.std.specs.Option.{option_map_or}
 use Rattle.rv32_machine.specs.Code.{insn_at}
 use Rattle.osek_kernel.specs.declared.context.Context.{Context}
+use Rattle.osek_kernel.specs.declared.context.Context.TheVariants as contexts
 use Rattle.osek_kernel.specs.declared.kernel.Kernel.{Kernel}
 use Rattle.osek_kernel.specs.Contexts.{context_at, context_count}
 use Rattle.osek_kernel.specs.Positions.{position_of, placed, started, answered}
@@ -148,18 +149,18 @@ gone_on plant mode event earlier window =
     run_in plant (running_after plant mode (event ∷ earlier))
     (record { uses = option_to_list (used_by plant mode event earlier) ++ window.uses; waiting = waiting_after plant event window.waiting })
 
--- The window of the subject that is open after the steps; none where the subject isn't active.
-abbrev pub open_window : PlantData → Context → ℕ → List Event → Option Window
-open_window plant subject mode [] =
-    if is_active (kernels.initial plant.system mode) subject then Some (opened plant mode (Some (Starts (In mode))) []) else None
-open_window plant subject mode (event ∷ earlier) =
-    if is_this subject (started_by event) then Some (opened plant mode (start_by plant mode event earlier) (event ∷ earlier))
-    else (if is_this subject (ended_by event) then None
-    else option_map (gone_on plant mode event earlier) (open_window plant subject mode earlier))
+-- The window of the task that is open after the steps; none where the task isn't active.
+abbrev pub open_window : PlantData → ℕ → ℕ → List Event → Option Window
+open_window plant task mode [] =
+    if is_active (kernels.initial plant.system mode) (contexts.Task task) then Some (opened plant mode (Some (Starts (In mode))) []) else None
+open_window plant task mode (event ∷ earlier) =
+    if is_this (contexts.Task task) (started_by event) then Some (opened plant mode (start_by plant mode event earlier) (event ∷ earlier))
+    else (if is_this (contexts.Task task) (ended_by event) then None
+    else option_map (gone_on plant mode event earlier) (open_window plant task mode earlier))
 
 -- what the window used that the newest step closed
-abbrev pub closed_uses : PlantData → Context → ℕ → Event → List Event → Option (List Column)
-closed_uses plant subject mode event earlier =
-    if is_this subject (ended_by event)
-    then option_map (λ window. option_to_list (used_by plant mode event earlier) ++ window.uses) (open_window plant subject mode earlier)
+abbrev pub closed_uses : PlantData → ℕ → ℕ → Event → List Event → Option (List Column)
+closed_uses plant task mode event earlier =
+    if is_this (contexts.Task task) (ended_by event)
+    then option_map (λ window. option_to_list (used_by plant mode event earlier) ++ window.uses) (open_window plant task mode earlier)
     else None

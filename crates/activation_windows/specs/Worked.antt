@@ -1,6 +1,5 @@
 -- The theorem at work on three small systems: bounds that their certificates give, and a run that meets every premise.
 use Rattle.std.specs.Prelude.{◌≡◌, ℕ, List}
-use Rattle.osek_kernel.specs.declared.context.Context.TheVariants as contexts
 use Rattle.osek_machine.specs.State.{MachineState}
 use Rattle.osek_machine.specs.Events.{Event, duration}
 use Rattle.row_build.specs.Columns.{Column}
@@ -21,7 +20,7 @@ pub record SamplesAreBounded : Type 0 where
 pub record HasDeclaredRun : Type 0 where
   pub events : List Event
   pub state : MachineState
-  pub is_case : IsDeclaredCase preempted.plant preempted.states (contexts.Task 0) 0 events state
+  pub is_case : IsDeclaredCase preempted.plant preempted.states 0 0 events state
   pub uses : List Column
-  pub used : IsUsed preempted.plant (contexts.Task 0) 0 events uses 0
+  pub used : IsUsed preempted.plant 0 0 events uses 0
   pub lasts : duration events ≡ 75

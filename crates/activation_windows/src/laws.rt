@@ -2,14 +2,13 @@
 //! definitions.
 
 ghost use Rattle.activation_windows.specs.Bounds.{GoodMultipliersBound, GreatestValueBounds};
-ghost use Rattle.activation_windows.specs.Bounds.{GoodMultipliersBoundContexts, TasksAreContexts};
-ghost use Rattle.activation_windows.specs.Bounds.{GreatestValueBoundsContexts, UsesArePoints};
+ghost use Rattle.activation_windows.specs.Bounds.{UsesArePoints};
 ghost use Rattle.activation_windows.specs.Counted.{MeetsArriving, MeetsBeginning, MeetsFirst};
 ghost use Rattle.activation_windows.specs.Counted.{MeetsGoingRound, MeetsLeaving, MeetsPassing};
 ghost use Rattle.activation_windows.specs.Counted.{MeetsStanding, UsesAreColumns, UsesCoverTime};
 ghost use Rattle.activation_windows.specs.Worked.{HasDeclaredRun, SamplesAreBounded};
 
-/// Each use of an activation's window is a column of the rows of its context, a task or an ISR.
+/// Each use of an activation's window is a column of the rows of its task.
 pub fn uses_are_columns()
     ensures { UsesAreColumns }
 {}
@@ -54,26 +53,10 @@ pub fn meets_arriving()
     ensures { MeetsArriving }
 {}
 
-/// The counts of what an activation's window uses meet every row of its context, and cost no less
-/// than the activation lasts, in cycles.
+/// The counts of what an activation's window uses meet every row of its task, and cost no less than
+/// the activation lasts, in cycles.
 pub fn uses_are_points()
     ensures { UsesArePoints }
-{}
-
-/// Multipliers that are good for the rows of a context, a task or an ISR, over a closed list of
-/// states bound each of its activations in every declared run, in cycles.
-pub fn good_multipliers_bound_contexts()
-    ensures { GoodMultipliersBoundContexts }
-{}
-
-/// So does the greatest value of the rows.
-pub fn greatest_value_bounds_contexts()
-    ensures { GreatestValueBoundsContexts }
-{}
-
-/// What bounds a task as a context bounds its activations.
-pub fn tasks_are_contexts()
-    ensures { TasksAreContexts }
 {}
 
 /// Multipliers that are good for the rows of a task over a closed list of states bound each of its

@@ -2,16 +2,16 @@
 use Rattle.std.proofs.Common.{◌≡◌, ℕ, suc, ◌+◌, ◌<◌, List, [], ◌∷◌, ◌++◌, length, map, take, get_or, refl, sym, ap, ◌∙◌, append-nil, arith, Bool, true, false, ℤ, pos}
 use Rattle.std.specs.Prelude.{filter}
 use Rattle.std.specs.List.{flat_map, list_any, range_with_len}
-use Rattle.osek_kernel.specs.declared.context.Context.{Context}
 use Rattle.osek_kernel.specs.Contexts.{context_at, context_count}
 use Rattle.row_build.specs.Families as families
-use Rattle.row_build.specs.Rows.{rows_for}
+use Rattle.row_build.specs.Rows.{rows_of}
 use Rattle.row_build.specs.Working.Pushed.{with_rows}
 use Rattle.whole_rows.specs.Rows.{RowsData}
 use Rattle.std.proofs.lemmas.List.Elements.{All-nil, All-cons, All-append}
 use Rattle.wcet_atomic_blocks.proofs.BeginLists.{filter_counts}
 use Rattle.std.proofs.lemmas.List.{map-append, take_more, length-take-le}
 use Rattle.flow_graph.specs.declared.edge.Edge.{Edge}
+use Rattle.osek_kernel.specs.declared.context.Context.TheVariants as contexts
 use Rattle.wcet_atomic_blocks.specs.Plants.{PlantData}
 use Rattle.abstract_sched.specs.declared.states.AbsState.{AbsState}
 use Rattle.row_build.specs.declared.numbered.NumberedColumn.{NumberedColumn}
@@ -47,16 +47,16 @@ five_parts f S xs₀ xs₁ xs₂ xs₃ xs₄ xs₅ a b c d e none first second t
     (adds_both f S xs₂ xs₃ xs₅ c (d ++ e) third
     (adds_both f S xs₃ xs₄ xs₅ d e fourth fifth))))
 
-pub all_columns : (plant : PlantData) (states : List AbsState) (subject : Context) (begins : List words.Start) (gs : List words.Going) (nodes : List ℕ) (found : List NumberedColumn)
-    → begins ≡ words.starts plant states subject → gs ≡ words.goings plant states → nodes ≡ words.positions plant states subject
+pub all_columns : (plant : PlantData) (states : List AbsState) (task : ℕ) (begins : List words.Start) (gs : List words.Going) (nodes : List ℕ) (found : List NumberedColumn)
+    → begins ≡ words.starts plant states task → gs ≡ words.goings plant states → nodes ≡ words.positions plant states task
     → Stand (column_of states) (IsColumn plant states) found
     (map words.Starts begins
-    ++ (map words.Moves (filter (λ going. words.is_active_in going.from subject) gs)
+    ++ (map words.Moves (filter (λ going. words.is_active_in going.from (contexts.Task task)) gs)
     ++ (map words.Goes (words.alongs plant)
-    ++ (map words.Begins (words.begun_blocks plant subject)
+    ++ (map words.Begins (words.begun_blocks plant task)
     ++ map words.Stands nodes))))
-    → Stand (column_of states) (IsColumn plant states) found (words.columns plant states subject)
-all_columns plant states subject begins gs nodes found e e' e'' stand = record { shows = stand.shows ∙ rw (e, e', e'') refl; sound = stand.sound }
+    → Stand (column_of states) (IsColumn plant states) found (words.columns plant states task)
+all_columns plant states task begins gs nodes found e e' e'' stand = record { shows = stand.shows ∙ rw (e, e', e'') refl; sound = stand.sound }
 
 -- ---- Start positions, one after another
 
@@ -76,11 +76,11 @@ positions_kept plant test n nodes nodes' were fails kept = record {
 
 -- ---- The rows of all families
 
-pub standing_is : (plant : PlantData) (states : List AbsState) (subject : Context) (nodes : List ℕ) → nodes ≡ words.positions plant states subject
-    → flat_map (families.standing_at plant subject) nodes
+pub standing_is : (plant : PlantData) (states : List AbsState) (task : ℕ) (nodes : List ℕ) → nodes ≡ words.positions plant states task
+    → flat_map (families.standing_at plant task) nodes
     ++ map (families.stands_once plant) (filter (λ context. list_any (families.is_owned plant context) nodes) (map (context_at plant.system) (range_with_len 0 (context_count plant.system))))
-    ≡ families.standing plant states subject
-standing_is plant states subject nodes e = rw e refl
+    ≡ families.standing plant states task
+standing_is plant states task nodes e = rw e refl
 
 -- seven parts, one after another
 pub seven_parts : {N P : Type 0} (f : N → P) (S : N → Type 0) (xs₀ xs₁ xs₂ xs₃ xs₄ xs₅ xs₆ xs₇ : List N) (a b c d e g h : List P) → xs₀ ≡ []
@@ -96,11 +96,11 @@ seven_parts f S xs₀ xs₁ xs₂ xs₃ xs₄ xs₅ xs₆ xs₇ a b c d e g h no
     (adds_both f S xs₅ xs₆ xs₇ g h sixth seventh))))))
 
 -- rows that were added to none, over the columns and their costs
-pub rows_are : (plant : PlantData) (states : List AbsState) (subject : Context) (cs : List words.Column) (rs : List families.Row) (costs : List ℤ) (made new : RowsData)
-    → cs ≡ words.columns plant states subject → rs ≡ families.rows plant states subject → costs ≡ map (λ column. pos (words.cost plant column)) cs
-    → made ≡ record { costs = costs; rows = []; rights = [] } → new ≡ with_rows cs made rs → new ≡ rows_for plant states subject
-rows_are plant states subject cs rs costs made new cs_is rs_is costs_is made_is new_is =
+pub rows_are : (plant : PlantData) (states : List AbsState) (task : ℕ) (cs : List words.Column) (rs : List families.Row) (costs : List ℤ) (made new : RowsData)
+    → cs ≡ words.columns plant states task → rs ≡ families.rows plant states task → costs ≡ map (λ column. pos (words.cost plant column)) cs
+    → made ≡ record { costs = costs; rows = []; rights = [] } → new ≡ with_rows cs made rs → new ≡ rows_of plant states task
+rows_are plant states task cs rs costs made new cs_is rs_is costs_is made_is new_is =
     new_is ∙ ap (λ m. with_rows cs m rs) made_is
     ∙ ap (λ xs. with_rows cs (record { costs = xs; rows = []; rights = [] }) rs) costs_is
     ∙ ap (λ ys. with_rows cs (record { costs = map (λ column. pos (words.cost plant column)) cs; rows = []; rights = [] }) ys) rs_is
-    ∙ ap (λ zs. with_rows zs (record { costs = map (λ column. pos (words.cost plant column)) zs; rows = []; rights = [] }) (families.rows plant states subject)) cs_is
+    ∙ ap (λ zs. with_rows zs (record { costs = map (λ column. pos (words.cost plant column)) zs; rows = []; rights = [] }) (families.rows plant states task)) cs_is

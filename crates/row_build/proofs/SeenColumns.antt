@@ -5,7 +5,6 @@ use Rattle.std.specs.Ordering.{int_eq}
 use Rattle.std.proofs.lemmas.List.{map-append, length-map, length-take-le}
 use Rattle.whole_rows.specs.Row.{is_zero}
 use Rattle.row_squeeze.specs.declared.Link.{Link}
-use Rattle.osek_kernel.specs.declared.context.Context.{Context}
 use Rattle.wcet_atomic_blocks.specs.Plants.{PlantData}
 use Rattle.row_build.specs.declared.seen.EntryKind.TheVariants.{Outgoing, Incoming, Other}
 use Rattle.row_build.specs.declared.seen.SeenEntry.{SeenEntry}
@@ -88,8 +87,8 @@ link_is plant (a ∷ b ∷ []) = rw (pair_is plant a b, pair_is plant b a) refl
 link_is plant (a ∷ b ∷ d ∷ more) = refl
 
 -- the link of a node's row, unless the node is the first one of the task's own entry
-pub link_seen : (plant : PlantData) (subject : Context) (node : ℕ) (columns : List words.Column) (seen : Seen) (link : Option Link) → words.is_first_of plant subject node ≡ false
-    → seen ≡ seen_at plant node columns → link ≡ link_of_seen seen → link ≡ link_at plant subject columns node
-link_seen plant subject node columns seen link not_first is made =
+pub link_seen : (plant : PlantData) (task node : ℕ) (columns : List words.Column) (seen : Seen) (link : Option Link) → words.is_first_of plant task node ≡ false
+    → seen ≡ seen_at plant node columns → link ≡ link_of_seen seen → link ≡ link_at plant task columns node
+link_seen plant task node columns seen link not_first is made =
     made ∙ ap link_of_seen is ∙ sym (link_is plant (entries_from (passes plant node).factor 0 columns))
     ∙ ap (λ first. cond first None (link_of_entries plant (entries_from (passes plant node).factor 0 columns))) (sym not_first)

@@ -1,11 +1,12 @@
--- The columns of the rows of a context, their subject: what is counted while an activation of the subject lasts, and
--- what each costs, in cycles.
+-- The columns of the rows of a task: what is counted while an activation of the task lasts, and what each costs, in
+-- cycles.
 use Rattle.std.specs.Prelude.{ℕ, suc, nat_eq, not, ◌&&◌, ◌||◌, ◌==◌, Bool, true, false, List, [], ◌∷◌, ◌++◌, length, map, filter, slice_get, Option, Some, None, option_map, option_and_then, Result, Ok, Err, if◌then◌else◌}
 use Rattle.std.specs.List.{list_any, range_with_len, flat_map}
 use Rattle.std.specs.Option.{option_map_or}
 use Rattle.rv32_decode.specs.Instructions.{class_of}
 use Rattle.rv32_machine.specs.Code.{insn_at}
 use Rattle.osek_kernel.specs.declared.context.Context.{Context}
+use Rattle.osek_kernel.specs.declared.context.Context.TheVariants as contexts
 use Rattle.osek_kernel.specs.declared.service.Service.{Service}
 use Rattle.osek_kernel.specs.Contexts.{context_at}
 use Rattle.osek_kernel.specs.Positions.{position_of}
@@ -86,9 +87,9 @@ activates plant context going = is_active_in going.move.to context && (not (is_a
 -- ---- Starts of an activation
 
 pub data Start : Type 0 where
-  -- the subject is active where the mode starts
+  -- the task is active where the mode starts
   In : ℕ → Start
-  -- the move activates the subject
+  -- the move activates the task
   By : Going → Start
 
 -- the state after a start
@@ -97,10 +98,10 @@ state_after plant (In mode) = initial plant mode
 state_after plant (By going) = going.move.to
 
 -- modes in order, then moves by state and place
-abbrev pub starts : PlantData → List AbsState → Context → List Start
-starts plant states subject =
-    map In (filter (λ mode. is_active_in (initial plant mode) subject) (range_with_len 0 (length plant.system.modes)))
-    ++ map By (filter (activates plant subject) (goings plant states))
+abbrev pub starts : PlantData → List AbsState → ℕ → List Start
+starts plant states task =
+    map In (filter (λ mode. is_active_in (initial plant mode) (contexts.Task task)) (range_with_len 0 (length plant.system.modes)))
+    ++ map By (filter (activates plant (contexts.Task task)) (goings plant states))
 
 -- ---- Columns
 
@@ -130,44 +131,44 @@ abbrev pub alongs : PlantData → List Along
 alongs plant =
     flat_map (λ node. if is_service plant.flow node then [] else alongs_at node 0 (edges_at plant.flow node)) (range_with_len 0 (length plant.flow.nodes))
 
--- the block is that of the subject's entry
-abbrev pub is_own_entry : PlantData → Context → ℕ → Bool
-is_own_entry plant subject block = option_map_or (nat_eq block) (entry_block plant subject) false
+-- the block is that of the task's entry
+abbrev pub is_own_entry : PlantData → ℕ → ℕ → Bool
+is_own_entry plant task block = option_map_or (nat_eq block) (entry_block plant (contexts.Task task)) false
 
-abbrev pub begun_blocks : PlantData → Context → List ℕ
-begun_blocks plant subject = filter (λ block. not (is_own_entry plant subject block)) (range_with_len 0 (length plant.blocks.blocks))
+abbrev pub begun_blocks : PlantData → ℕ → List ℕ
+begun_blocks plant task = filter (λ block. not (is_own_entry plant task block)) (range_with_len 0 (length plant.blocks.blocks))
 
 -- the context of a node
 abbrev pub owner_of : PlantData → ℕ → Option Context
 owner_of plant node = option_map (λ n. context_at plant.system n.context) (slice_get plant.flow.nodes node)
 
--- the node is the first one of the subject's entry
-abbrev pub is_first_of : PlantData → Context → ℕ → Bool
-is_first_of plant subject node =
+-- the node is the first one of the task's entry
+abbrev pub is_first_of : PlantData → ℕ → ℕ → Bool
+is_first_of plant task node =
     option_map_or (λ block. block.begin.first == node)
-    (option_and_then (slice_get plant.blocks.blocks) (entry_block plant subject)) false
+    (option_and_then (slice_get plant.blocks.blocks) (entry_block plant (contexts.Task task))) false
 
--- A node may be a start position where some start leaves its context in a block that holds it; of the subject's own
+-- A node may be a start position where some start leaves its context in a block that holds it; of the task's own
 -- nodes only its entry.
-abbrev pub may_stand : PlantData → Context → ℕ → Context → Start → Bool
-may_stand plant subject node context start =
+abbrev pub may_stand : PlantData → ℕ → ℕ → Context → Start → Bool
+may_stand plant task node context start =
     holds_in plant (state_after plant start) context node
-    && (not (is_this context (Some subject)) || is_first_of plant subject node)
+    && (not (is_this context (Some (contexts.Task task))) || is_first_of plant task node)
 
-abbrev pub is_position : PlantData → List Start → Context → ℕ → Bool
-is_position plant begins subject node = option_map_or (λ context. list_any (may_stand plant subject node context) begins) (owner_of plant node) false
+abbrev pub is_position : PlantData → List Start → ℕ → ℕ → Bool
+is_position plant begins task node = option_map_or (λ context. list_any (may_stand plant task node context) begins) (owner_of plant node) false
 
-abbrev pub positions : PlantData → List AbsState → Context → List ℕ
-positions plant states subject = filter (is_position plant (starts plant states subject) subject) (range_with_len 0 (length plant.flow.nodes))
+abbrev pub positions : PlantData → List AbsState → ℕ → List ℕ
+positions plant states task = filter (is_position plant (starts plant states task) task) (range_with_len 0 (length plant.flow.nodes))
 
 -- All columns, in their order.
-abbrev pub columns : PlantData → List AbsState → Context → List Column
-columns plant states subject =
-    map Starts (starts plant states subject)
-    ++ (map Moves (filter (λ going. is_active_in going.from subject) (goings plant states))
+abbrev pub columns : PlantData → List AbsState → ℕ → List Column
+columns plant states task =
+    map Starts (starts plant states task)
+    ++ (map Moves (filter (λ going. is_active_in going.from (contexts.Task task)) (goings plant states))
     ++ (map Goes (alongs plant)
-    ++ (map Begins (begun_blocks plant subject)
-    ++ map Stands (positions plant states subject))))
+    ++ (map Begins (begun_blocks plant task)
+    ++ map Stands (positions plant states task))))
 
 -- ---- Costs: the most that a step of the column may take
 

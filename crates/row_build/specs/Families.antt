@@ -4,6 +4,7 @@ use Rattle.std.specs.Prelude.{ℕ, ◌*◌, nat_eq, not, ◌&&◌, ◌==◌, Boo
 use Rattle.std.specs.List.{list_any, range_with_len, flat_map}
 use Rattle.std.specs.Option.{option_map_or}
 use Rattle.osek_kernel.specs.declared.context.Context.{Context}
+use Rattle.osek_kernel.specs.declared.context.Context.TheVariants as contexts
 use Rattle.osek_kernel.specs.Contexts.{context_at, context_count}
 use Rattle.osek_kernel.specs.Positions.{position_of}
 use Rattle.osek_kernel.specs.Sources.{source_count, source_at, is_live, is_one_shot}
@@ -57,10 +58,10 @@ all_starts column = starts_that (λ start. true) column
 
 -- How often the activation comes into a state that passes the test: by its start, or by a move that doesn't end it. A
 -- move that ends it and starts the next one counts by that start alone.
-abbrev pub into : PlantData → Context → (AbsState → Bool) → Columns.Column → ℤ
-into plant subject test column =
+abbrev pub into : PlantData → ℕ → (AbsState → Bool) → Columns.Column → ℤ
+into plant task test column =
     starts_that (λ start. test (Columns.state_after plant start)) column
-    +ℤ moves_that (λ going. test going.move.to && not (Columns.ends_in plant subject going)) column
+    +ℤ moves_that (λ going. test going.move.to && not (Columns.ends_in plant (contexts.Task task) going)) column
 
 -- ---- 1: the activation has one start
 
@@ -69,15 +70,15 @@ one_start = record { factor = all_starts; right = 1 }
 
 -- ---- 2: a state is left at most as often as it is come into
 
-abbrev pub leaves : PlantData → Context → AbsState → Row
-leaves plant subject state = record {
-  factor = λ column. moves_that (λ going. same_state state going.from) column -ℤ into plant subject (same_state state) column;
+abbrev pub leaves : PlantData → ℕ → AbsState → Row
+leaves plant task state = record {
+  factor = λ column. moves_that (λ going. same_state state going.from) column -ℤ into plant task (same_state state) column;
   right = 0;
 }
 
--- for each listed state in which the subject is active
-abbrev pub leaving : PlantData → List AbsState → Context → List Row
-leaving plant states subject = map (leaves plant subject) (filter (λ state. Columns.is_active_in state subject) states)
+-- for each listed state in which the task is active
+abbrev pub leaving : PlantData → List AbsState → ℕ → List Row
+leaving plant states task = map (leaves plant task) (filter (λ state. Columns.is_active_in state (contexts.Task task)) states)
 
 -- ---- 3: a node is left at most as often as it is come to
 
@@ -103,34 +104,34 @@ passing plant = map (passes plant) (range_with_len 0 (length plant.flow.nodes))
 
 -- ---- 4: a context stands where the start leaves it, and runs there only in a state that is come into
 
--- the state after the start has the context in a block that holds the node; of the subject itself each start counts
-abbrev pub leaves_at : PlantData → Context → Context → ℕ → Columns.Start → Bool
-leaves_at plant subject context node start =
-    if is_this context (Some subject) then true else Columns.holds_in plant (Columns.state_after plant start) context node
+-- the state after the start has the context in a block that holds the node; of the task itself each start counts
+abbrev pub leaves_at : PlantData → ℕ → Context → ℕ → Columns.Start → Bool
+leaves_at plant task context node start =
+    if is_this context (Some (contexts.Task task)) then true else Columns.holds_in plant (Columns.state_after plant start) context node
 
--- the subject is active, and the context runs in a block that holds the node
-abbrev pub runs_at : PlantData → Context → Context → ℕ → AbsState → Bool
-runs_at plant subject context node state =
-    Columns.is_active_in state subject && (is_this context (running_in plant state) && Columns.holds_in plant state context node)
+-- the task is active, and the context runs in a block that holds the node
+abbrev pub runs_at : PlantData → ℕ → Context → ℕ → AbsState → Bool
+runs_at plant task context node state =
+    Columns.is_active_in state (contexts.Task task) && (is_this context (running_in plant state) && Columns.holds_in plant state context node)
 
-abbrev pub stands_by_start : PlantData → Context → Context → ℕ → Row
-stands_by_start plant subject context node = record {
-  factor = λ column. stands_that (nat_eq node) column -ℤ starts_that (leaves_at plant subject context node) column;
+abbrev pub stands_by_start : PlantData → ℕ → Context → ℕ → Row
+stands_by_start plant task context node = record {
+  factor = λ column. stands_that (nat_eq node) column -ℤ starts_that (leaves_at plant task context node) column;
   right = 0;
 }
 
-abbrev pub stands_into : PlantData → Context → Context → ℕ → Row
-stands_into plant subject context node = record {
-  factor = λ column. stands_that (nat_eq node) column -ℤ into plant subject (runs_at plant subject context node) column;
+abbrev pub stands_into : PlantData → ℕ → Context → ℕ → Row
+stands_into plant task context node = record {
+  factor = λ column. stands_that (nat_eq node) column -ℤ into plant task (runs_at plant task context node) column;
   right = 0;
 }
 
-abbrev pub standing_rows : PlantData → Context → Context → ℕ → List Row
-standing_rows plant subject context node = stands_by_start plant subject context node ∷ stands_into plant subject context node ∷ []
+abbrev pub standing_rows : PlantData → ℕ → Context → ℕ → List Row
+standing_rows plant task context node = stands_by_start plant task context node ∷ stands_into plant task context node ∷ []
 
 -- the two rows of a node's context
-abbrev pub standing_at : PlantData → Context → ℕ → List Row
-standing_at plant subject node = option_map_or (λ context. standing_rows plant subject context node) (Columns.owner_of plant node) []
+abbrev pub standing_at : PlantData → ℕ → ℕ → List Row
+standing_at plant task node = option_map_or (λ context. standing_rows plant task context node) (Columns.owner_of plant node) []
 
 abbrev pub is_owned : PlantData → Context → ℕ → Bool
 is_owned plant context node = is_this context (Columns.owner_of plant node)
@@ -139,10 +140,10 @@ is_owned plant context node = is_this context (Columns.owner_of plant node)
 abbrev pub stands_once : PlantData → Context → Row
 stands_once plant context = record { factor = λ column. stands_that (is_owned plant context) column -ℤ all_starts column; right = 0 }
 
-abbrev pub standing : PlantData → List AbsState → Context → List Row
-standing plant states subject =
-    let nodes = Columns.positions plant states subject in
-    flat_map (standing_at plant subject) nodes
+abbrev pub standing : PlantData → List AbsState → ℕ → List Row
+standing plant states task =
+    let nodes = Columns.positions plant states task in
+    flat_map (standing_at plant task) nodes
     ++ map (stands_once plant) (filter (λ context. list_any (is_owned plant context) nodes) (map (context_at plant.system) (range_with_len 0 (context_count plant.system))))
 
 -- ---- 5: a block is begun only by its moves, and runs only in a state that is come into
@@ -153,10 +154,10 @@ begins_block plant begin going =
     option_map_or (λ service. Columns.calls_at service going.move.label)
     begin.after (Columns.activates plant (context_at plant.system begin.owner) going)
 
--- the subject is active, and the context runs in the block
-abbrev pub runs_in_block : PlantData → Context → Context → ℕ → AbsState → Bool
-runs_in_block plant subject context block state =
-    Columns.is_active_in state subject
+-- the task is active, and the context runs in the block
+abbrev pub runs_in_block : PlantData → ℕ → Context → ℕ → AbsState → Bool
+runs_in_block plant task context block state =
+    Columns.is_active_in state (contexts.Task task)
     && (is_this context (running_in plant state) && option_map_or (nat_eq block) (position_of plant.system (blocks_in plant state) context) false)
 
 abbrev pub begins_by_move : PlantData → ℕ → Beginning → Row
@@ -165,21 +166,21 @@ begins_by_move plant number begin = record {
   right = 0;
 }
 
-abbrev pub begins_into : PlantData → Context → ℕ → Context → Row
-begins_into plant subject number context = record {
-  factor = λ column. begins_that (nat_eq number) column -ℤ into plant subject (runs_in_block plant subject context number) column;
+abbrev pub begins_into : PlantData → ℕ → ℕ → Context → Row
+begins_into plant task number context = record {
+  factor = λ column. begins_that (nat_eq number) column -ℤ into plant task (runs_in_block plant task context number) column;
   right = 0;
 }
 
-abbrev pub beginning_rows : PlantData → Context → ℕ → Block → List Row
-beginning_rows plant subject number block =
-    begins_by_move plant number block.begin ∷ begins_into plant subject number (context_at plant.system block.begin.owner) ∷ []
+abbrev pub beginning_rows : PlantData → ℕ → ℕ → Block → List Row
+beginning_rows plant task number block =
+    begins_by_move plant number block.begin ∷ begins_into plant task number (context_at plant.system block.begin.owner) ∷ []
 
-abbrev pub beginning_at : PlantData → Context → ℕ → List Row
-beginning_at plant subject number = option_map_or (beginning_rows plant subject number) (slice_get plant.blocks.blocks number) []
+abbrev pub beginning_at : PlantData → ℕ → ℕ → List Row
+beginning_at plant task number = option_map_or (beginning_rows plant task number) (slice_get plant.blocks.blocks number) []
 
-abbrev pub beginning : PlantData → Context → List Row
-beginning plant subject = flat_map (beginning_at plant subject) (Columns.begun_blocks plant subject)
+abbrev pub beginning : PlantData → ℕ → List Row
+beginning plant task = flat_map (beginning_at plant task) (Columns.begun_blocks plant task)
 
 -- ---- 6: a loop is gone round at most its bound for each time that it is entered
 
@@ -239,7 +240,7 @@ arriving plant = map (arrives plant) (filter (is_ever_live plant) (range_with_le
 
 -- ---- All of them, in their order
 
-abbrev pub rows : PlantData → List AbsState → Context → List Row
-rows plant states subject =
-    (one_start ∷ leaving plant states subject)
-    ++ (passing plant ++ (standing plant states subject ++ (beginning plant subject ++ (going_round plant ++ arriving plant))))
+abbrev pub rows : PlantData → List AbsState → ℕ → List Row
+rows plant states task =
+    (one_start ∷ leaving plant states task)
+    ++ (passing plant ++ (standing plant states task ++ (beginning plant task ++ (going_round plant ++ arriving plant))))

@@ -6,8 +6,6 @@ use Rattle.std.specs.Option.{option_or}
 use Rattle.std.specs.Ordering.{int_eq}
 use Rattle.whole_rows.specs.Row.{is_zero}
 use Rattle.row_squeeze.specs.declared.Link.{Link}
-use Rattle.osek_kernel.specs.declared.context.Context.{Context}
-use Rattle.osek_kernel.specs.declared.context.Context.TheVariants as contexts
 use Rattle.wcet_atomic_blocks.specs.Loops.{loop_instances}
 use Rattle.wcet_atomic_blocks.specs.Plants.{PlantData}
 use Rattle.abstract_sched.specs.declared.states.AbsState.{AbsState}
@@ -59,25 +57,20 @@ abbrev pub link_of_entries : PlantData → List Entry → Option Link
 link_of_entries plant (first ∷ second ∷ []) = option_or (link_of_pair plant first second) (link_of_pair plant second first)
 link_of_entries plant entries = None
 
--- The link of a node's row. The first node of the subject's own entry has none, even where no start leaves the subject
--- there.
-abbrev pub link_at : PlantData → Context → List Columns.Column → ℕ → Option Link
-link_at plant subject columns node =
-    if Columns.is_first_of plant subject node then None
+-- The link of a node's row. The first node of the task's own entry has none, even where no start leaves the task there.
+abbrev pub link_at : PlantData → ℕ → List Columns.Column → ℕ → Option Link
+link_at plant task columns node =
+    if Columns.is_first_of plant task node then None
     else link_of_entries plant (entries_from (Families.passes plant node).factor 0 columns)
 
 abbrev pub without_links : List Families.Row → List (Option Link)
 without_links rows = map (λ row. None) rows
 
 -- one link or none for each row, in the order of the rows
-abbrev pub links_for : PlantData → List AbsState → Context → List (Option Link)
-links_for plant states subject =
-    let columns = Columns.columns plant states subject in
-    without_links (Families.one_start ∷ Families.leaving plant states subject)
-    ++ (map (link_at plant subject columns) (range_with_len 0 (length plant.flow.nodes))
-    ++ without_links (Families.standing plant states subject
-    ++ (Families.beginning plant subject ++ (Families.going_round plant ++ Families.arriving plant))))
-
--- those of the rows of a task
 abbrev pub links_of : PlantData → List AbsState → ℕ → List (Option Link)
-links_of plant states task = links_for plant states (contexts.Task task)
+links_of plant states task =
+    let columns = Columns.columns plant states task in
+    without_links (Families.one_start ∷ Families.leaving plant states task)
+    ++ (map (link_at plant task columns) (range_with_len 0 (length plant.flow.nodes))
+    ++ without_links (Families.standing plant states task
+    ++ (Families.beginning plant task ++ (Families.going_round plant ++ Families.arriving plant))))

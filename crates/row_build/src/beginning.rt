@@ -44,7 +44,7 @@ pub(crate) fn begins_into(
     plant: &Plant,
     states: &[AbsState],
     running: &[Option<Context>],
-    subject: Context,
+    task: usize,
     block: usize,
     owner: usize,
     column: NumberedColumn,
@@ -52,7 +52,7 @@ pub(crate) fn begins_into(
     requires differ { differ same_state states.now ≡ true }
     requires running { AreRunning plant.now states.now running.now }
     requires column { IsColumn plant.now states.now column }
-    ensures { entry_of result ≡ (words.begins_into plant.now subject block
+    ensures { entry_of result ≡ (words.begins_into plant.now task block
         (context_at plant.now.system owner)).factor (column_of states.now column) }
 {
     let test = StateTest::RunsIn {
@@ -61,7 +61,7 @@ pub(crate) fn begins_into(
     };
     Factor::of(
         begins(states, block, column),
-        into(plant, states, running, subject, test, column),
+        into(plant, states, running, task, test, column),
     )
 }
 

@@ -2,6 +2,7 @@
 
 ghost use Rattle.std.specs.Prelude.{◌≡◌, ◌<◌, [], ◌∷◌, All, IfOk, OnOk, filter, length, map, not, if◌then◌else◌};
 ghost use Rattle.std.specs.List.{flat_map, range_with_len};
+ghost use Rattle.osek_kernel.specs.declared.context.Context.TheVariants as contexts;
 ghost use Rattle.wcet_atomic_blocks.specs.Blocks.{edges_at, is_service as is_ecall};
 ghost use Rattle.row_build.specs.Columns as words;
 ghost use Rattle.row_build.specs.Working.Growing.{Adds, Stand};
@@ -25,21 +26,21 @@ pub(crate) fn columns(
     goings: &[NumberedMove],
     starts: &[NumberedStart],
     nodes: &[usize],
-    subject: Context,
+    task: usize,
 ) -> Result<NumberedColumns, Memory>
     requires goings { Stand (going_of states.now) (IsMove states.now) goings.now
         (words.goings plant.now states.now) }
     requires starts { Stand (start_of states.now) (IsStart plant.now states.now) starts.now
-        (words.starts plant.now states.now subject) }
-    requires nodes { nodes.now ≡ words.positions plant.now states.now subject }
+        (words.starts plant.now states.now task) }
+    requires nodes { nodes.now ≡ words.positions plant.now states.now task }
     ensures { IfOk result (λ found. Stand (column_of states.now) (IsColumn plant.now states.now)
-        found (words.columns plant.now states.now subject)) }
+        found (words.columns plant.now states.now task)) }
 {
     let mut found = NumberedColumns::new(alloc);
     push_starts(plant, states, starts, &mut found)?;
-    push_moves(plant, states, goings, subject, &mut found)?;
+    push_moves(plant, states, goings, task, &mut found)?;
     push_edges(plant, states, &mut found)?;
-    push_blocks(plant, states, subject, &mut found)?;
+    push_blocks(plant, states, task, &mut found)?;
     push_positions(plant, states, nodes, &mut found)?;
     Ok(found)
 }
@@ -64,22 +65,22 @@ fn push_starts(
     Ok(())
 }
 
-/// Adds the moves out of states in which the subject is active.
+/// Adds the moves out of states in which the task is active.
 fn push_moves(
     plant: &Plant,
     states: &[AbsState],
     goings: &[NumberedMove],
-    subject: Context,
+    task: usize,
     found: &mut NumberedColumns,
 ) -> Result<(), Memory>
     requires { All (IsMove states.now) goings.now }
     ensures { OnOk result (Adds (column_of states.now) (IsColumn plant.now states.now) found.old
         found.new (map words.Moves (filter
-        (λ going. words.is_active_in going.from subject)
+        (λ going. words.is_active_in going.from (contexts.Task task))
         (map (going_of states.now) goings.now)))) }
 {
     for number in 0..goings.len() {
-        push_if_active(plant, states, goings[number], subject, found)?;
+        push_if_active(plant, states, goings[number], task, found)?;
     }
     Ok(())
 }
@@ -88,17 +89,17 @@ fn push_if_active(
     plant: &Plant,
     states: &[AbsState],
     going: NumberedMove,
-    subject: Context,
+    task: usize,
     found: &mut NumberedColumns,
 ) -> Result<(), Memory>
     requires { IsMove states.now going }
     ensures { OnOk result (Adds (column_of states.now) (IsColumn plant.now states.now) found.old
         found.new (map words.Moves
-        (if words.is_active_in (going_of states.now going).from subject
+        (if words.is_active_in (going_of states.now going).from (contexts.Task task)
         then going_of states.now going ∷ [] else []))) }
 {
     let _ = plant;
-    if is_active_in(&states[going.from], subject) {
+    if is_active_in(&states[going.from], Context::Task(task)) {
         found.push(NumberedColumn::Moves { going })?;
     }
     Ok(())
@@ -156,18 +157,18 @@ fn push_alongs(
     Ok(())
 }
 
-/// Adds the blocks but that of the subject's entry.
+/// Adds the blocks but that of the task's entry.
 fn push_blocks(
     plant: &Plant,
     states: &[AbsState],
-    subject: Context,
+    task: usize,
     found: &mut NumberedColumns,
 ) -> Result<(), Memory>
     ensures { OnOk result (Adds (column_of states.now) (IsColumn plant.now states.now) found.old
-        found.new (map words.Begins (words.begun_blocks plant.now subject))) }
+        found.new (map words.Begins (words.begun_blocks plant.now task))) }
 {
     for block in 0..plant.blocks.count() {
-        push_block(plant, states, subject, block, found)?;
+        push_block(plant, states, task, block, found)?;
     }
     Ok(())
 }
@@ -175,26 +176,26 @@ fn push_blocks(
 fn push_block(
     plant: &Plant,
     states: &[AbsState],
-    subject: Context,
+    task: usize,
     block: usize,
     found: &mut NumberedColumns,
 ) -> Result<(), Memory>
     ensures { OnOk result (Adds (column_of states.now) (IsColumn plant.now states.now) found.old
-        found.new (map words.Begins (if not (words.is_own_entry plant.now subject block)
+        found.new (map words.Begins (if not (words.is_own_entry plant.now task block)
         then block ∷ [] else []))) }
 {
     let _ = states;
-    if !is_own_entry(plant, subject, block) {
+    if !is_own_entry(plant, task, block) {
         found.push(NumberedColumn::Begins { block })?;
     }
     Ok(())
 }
 
-/// Whether the block is that of the subject's entry.
-pub(crate) fn is_own_entry(plant: &Plant, subject: Context, block: usize) -> bool
-    ensures { result ≡ words.is_own_entry plant.now subject block }
+/// Whether the block is that of the task's entry.
+pub(crate) fn is_own_entry(plant: &Plant, task: usize, block: usize) -> bool
+    ensures { result ≡ words.is_own_entry plant.now task block }
 {
-    match entry_block(plant, subject) {
+    match entry_block(plant, task) {
         Some(own) => block == own,
         None => false,
     }

@@ -1,6 +1,7 @@
 //! The rows of the seven families by their kinds, in their order.
 
 ghost use Rattle.std.specs.Prelude.{◌≡◌, ◌<◌, [], ◌∷◌, OnOk, length, map, if◌then◌else◌};
+ghost use Rattle.osek_kernel.specs.declared.context.Context.TheVariants as contexts;
 ghost use Rattle.osek_kernel.specs.Sources.{source_at, is_live};
 ghost use Rattle.row_build.specs.Columns as columns;
 ghost use Rattle.row_build.specs.Families as words;
@@ -17,20 +18,20 @@ use wcet_atomic_blocks::{LoopInstance, Plant};
 
 // ---- Family 2
 
-/// Adds a row for each state in which the subject is active.
+/// Adds a row for each state in which the task is active.
 pub(crate) fn push_leaving(
     plant: &Plant,
     states: &[AbsState],
     instances: &[LoopInstance],
-    subject: Context,
+    task: usize,
     kinds: &mut RowKinds,
 ) -> Result<(), Memory>
-    ensures { OnOk result (Adds (row_of plant.now states.now instances.now subject)
+    ensures { OnOk result (Adds (row_of plant.now states.now instances.now task)
         (IsKind plant.now states.now instances.now) kinds.old kinds.new
-        (words.leaving plant.now states.now subject)) }
+        (words.leaving plant.now states.now task)) }
 {
     for state in 0..states.len() {
-        push_if_active(plant, states, instances, subject, state, kinds)?;
+        push_if_active(plant, states, instances, task, state, kinds)?;
     }
     Ok(())
 }
@@ -39,20 +40,20 @@ fn push_if_active(
     plant: &Plant,
     states: &[AbsState],
     instances: &[LoopInstance],
-    subject: Context,
+    task: usize,
     state: usize,
     kinds: &mut RowKinds,
 ) -> Result<(), Memory>
     requires { state < length states.now }
-    ensures { OnOk result (Adds (row_of plant.now states.now instances.now subject)
+    ensures { OnOk result (Adds (row_of plant.now states.now instances.now task)
         (IsKind plant.now states.now instances.now) kinds.old kinds.new
-        (map (words.leaves plant.now subject)
-        (if columns.is_active_in (state_at states.now state) subject
+        (map (words.leaves plant.now task)
+        (if columns.is_active_in (state_at states.now state) (contexts.Task task)
         then state_at states.now state ∷ [] else []))) }
 {
     let _ = plant;
     let _ = instances;
-    if is_active_in(&states[state], subject) {
+    if is_active_in(&states[state], Context::Task(task)) {
         kinds.push(RowKind::Leaves { state })?;
     }
     Ok(())
@@ -65,15 +66,15 @@ pub(crate) fn push_passing(
     plant: &Plant,
     states: &[AbsState],
     instances: &[LoopInstance],
-    subject: Context,
+    task: usize,
     kinds: &mut RowKinds,
 ) -> Result<(), Memory>
-    ensures { OnOk result (Adds (row_of plant.now states.now instances.now subject)
+    ensures { OnOk result (Adds (row_of plant.now states.now instances.now task)
         (IsKind plant.now states.now instances.now) kinds.old kinds.new (words.passing plant.now)) }
 {
     let _ = states;
     let _ = instances;
-    let _ = subject;
+    let _ = task;
     for node in 0..plant.flow.nodes() {
         kinds.push(RowKind::Passes { node })?;
     }
@@ -87,16 +88,16 @@ pub(crate) fn push_going_round(
     plant: &Plant,
     states: &[AbsState],
     instances: &[LoopInstance],
-    subject: Context,
+    task: usize,
     kinds: &mut RowKinds,
 ) -> Result<(), Memory>
-    ensures { OnOk result (Adds (row_of plant.now states.now instances.now subject)
+    ensures { OnOk result (Adds (row_of plant.now states.now instances.now task)
         (IsKind plant.now states.now instances.now) kinds.old kinds.new
         (map (words.goes_round plant.now) instances.now)) }
 {
     let _ = plant;
     let _ = states;
-    let _ = subject;
+    let _ = task;
     for instance in 0..instances.len() {
         kinds.push(RowKind::GoesRound { instance })?;
     }
@@ -110,15 +111,15 @@ pub(crate) fn push_arriving(
     plant: &Plant,
     states: &[AbsState],
     instances: &[LoopInstance],
-    subject: Context,
+    task: usize,
     kinds: &mut RowKinds,
 ) -> Result<(), Memory>
-    ensures { OnOk result (Adds (row_of plant.now states.now instances.now subject)
+    ensures { OnOk result (Adds (row_of plant.now states.now instances.now task)
         (IsKind plant.now states.now instances.now) kinds.old kinds.new (words.arriving plant.now)) }
 {
     plant.belongs_together();
     for source in 0..Source::count(&plant.system) {
-        push_source(plant, states, instances, subject, source, kinds)?;
+        push_source(plant, states, instances, task, source, kinds)?;
     }
     Ok(())
 }
@@ -127,18 +128,18 @@ fn push_source(
     plant: &Plant,
     states: &[AbsState],
     instances: &[LoopInstance],
-    subject: Context,
+    task: usize,
     source: usize,
     kinds: &mut RowKinds,
 ) -> Result<(), Memory>
-    ensures { OnOk result (Adds (row_of plant.now states.now instances.now subject)
+    ensures { OnOk result (Adds (row_of plant.now states.now instances.now task)
         (IsKind plant.now states.now instances.now) kinds.old kinds.new
         (map (words.arrives plant.now)
         (if words.is_ever_live plant.now source then source ∷ [] else []))) }
 {
     let _ = states;
     let _ = instances;
-    let _ = subject;
+    let _ = task;
     if is_ever_live(plant, source) {
         kinds.push(arrives(plant, source))?;
     }

@@ -5,6 +5,7 @@ ghost use Rattle.std.specs.Option.{option_map_or};
 ghost use Rattle.listed.specs.Lists.{differ};
 ghost use Rattle.abstract_sched.specs.States.{same_state};
 ghost use Rattle.osek_kernel.specs.Contexts.{context_at};
+ghost use Rattle.osek_kernel.specs.declared.context.Context.TheVariants as contexts;
 ghost use Rattle.osek_kernel.specs.Positions.{position_of};
 ghost use Rattle.scheduler_moves.specs.Moves.{blocks_in, running_in};
 ghost use Rattle.row_build.specs.Columns as columns;
@@ -21,7 +22,7 @@ use abstract_sched::AbsState;
 use osek_kernel::Context;
 use wcet_atomic_blocks::Plant;
 
-/// A test of states: whether it is the state of a number, or whether the subject is active in it and
+/// A test of states: whether it is the state of a number, or whether the task is active in it and
 /// the context at a place runs, in a block that holds a node or in a certain block.
 #[derive(Clone, Copy, Debug)]
 pub(crate) enum StateTest {
@@ -36,7 +37,7 @@ pub(crate) fn into(
     plant: &Plant,
     states: &[AbsState],
     running: &[Option<Context>],
-    subject: Context,
+    task: usize,
     test: StateTest,
     column: NumberedColumn,
 ) -> bool
@@ -44,21 +45,21 @@ pub(crate) fn into(
     requires running { AreRunning plant.now states.now running.now }
     requires test { IsTest plant.now states.now test }
     requires column { IsColumn plant.now states.now column }
-    ensures { words.counted result ≡ words.into plant.now subject
-        (test_of plant.now states.now subject test) (column_of states.now column) }
+    ensures { words.counted result ≡ words.into plant.now task
+        (test_of plant.now states.now task test) (column_of states.now column) }
 {
     match column {
         NumberedColumn::Starts { start } => passes(
             plant,
             states,
             running,
-            subject,
+            task,
             test,
             after(plant, states, start),
         ),
         NumberedColumn::Moves { going } => {
-            passes(plant, states, running, subject, test, going.to)
-                && !ends_in(plant, states, running, subject, going)
+            passes(plant, states, running, task, test, going.to)
+                && !ends_in(plant, states, running, Context::Task(task), going)
         }
         _ => false,
     }
@@ -69,7 +70,7 @@ fn passes(
     plant: &Plant,
     states: &[AbsState],
     running: &[Option<Context>],
-    subject: Context,
+    task: usize,
     test: StateTest,
     number: usize,
 ) -> bool
@@ -77,16 +78,16 @@ fn passes(
     requires running { AreRunning plant.now states.now running.now }
     requires test { IsTest plant.now states.now test }
     requires exists { number < length states.now }
-    ensures { result ≡ test_of plant.now states.now subject test (state_at states.now number) }
+    ensures { result ≡ test_of plant.now states.now task test (state_at states.now number) }
 {
     match test {
         StateTest::Is { state } => is_state(states, state, number),
         StateTest::RunsAt { place, node } => {
-            runs(plant, states, running, subject, place, number)
+            runs(plant, states, running, task, place, number)
                 && holds_in(plant, &states[number], place, node)
         }
         StateTest::RunsIn { place, block } => {
-            runs(plant, states, running, subject, place, number)
+            runs(plant, states, running, task, place, number)
                 && is_in(plant, &states[number], place, block)
         }
     }
@@ -104,22 +105,22 @@ pub(crate) fn is_state(states: &[AbsState], state: usize, number: usize) -> bool
     state == number
 }
 
-/// Whether the subject is active in the state, and the context at a place runs.
+/// Whether the task is active in the state, and the context at a place runs.
 fn runs(
     plant: &Plant,
     states: &[AbsState],
     running: &[Option<Context>],
-    subject: Context,
+    task: usize,
     place: usize,
     number: usize,
 ) -> bool
     requires running { AreRunning plant.now states.now running.now }
     requires exists { number < length states.now }
-    ensures { result ≡ (columns.is_active_in (state_at states.now number) subject
+    ensures { result ≡ (columns.is_active_in (state_at states.now number) (contexts.Task task)
         && is_context (context_at plant.now.system place)
         (running_in plant.now (state_at states.now number))) }
 {
-    is_active_in(&states[number], subject)
+    is_active_in(&states[number], Context::Task(task))
         && is_this(Context::at(&plant.system, place), running[number])
 }
 

@@ -19,7 +19,7 @@ pub(crate) fn leaves(
     plant: &Plant,
     states: &[AbsState],
     running: &[Option<Context>],
-    subject: Context,
+    task: usize,
     state: usize,
     column: NumberedColumn,
 ) -> Factor
@@ -27,7 +27,7 @@ pub(crate) fn leaves(
     requires running { AreRunning plant.now states.now running.now }
     requires state { state < length states.now }
     requires column { IsColumn plant.now states.now column }
-    ensures { entry_of result ≡ (words.leaves plant.now subject (state_at states.now state)).factor
+    ensures { entry_of result ≡ (words.leaves plant.now task (state_at states.now state)).factor
         (column_of states.now column) }
 {
     Factor::of(
@@ -36,7 +36,7 @@ pub(crate) fn leaves(
             plant,
             states,
             running,
-            subject,
+            task,
             StateTest::Is { state },
             column,
         ),

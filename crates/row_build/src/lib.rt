@@ -1,7 +1,6 @@
-//! The rows whose greatest value bounds how long an activation of a context, a task or an ISR,
-//! lasts: what each column counts and costs, and what the seven families of rows say of the counts.
-//! `specs/` has them as definitions over a plant, a closed list of scheduler states and a context,
-//! their subject.
+//! The rows whose greatest value bounds how long an activation of a task lasts: what each column
+//! counts and costs, and what the seven families of rows say of the counts. `specs/` has them as
+//! definitions over a plant, a closed list of scheduler states and a task.
 #![tactic(auto)]
 
 mod activating;
@@ -32,6 +31,6 @@ mod terms;
 mod touching;
 mod visits;
 
-pub use links_made::{links, links_for};
+pub use links_made::links;
 pub use row_squeeze::{Link, Links};
-pub use rows_made::{rows, rows_for};
+pub use rows_made::rows;

@@ -1,4 +1,4 @@
-//! The links of the rows of a context.
+//! The links of the rows of a task.
 
 ghost use Rattle.std.specs.Prelude.{◌≡◌, ◌∷◌, ◌++◌, IfOk, OnOk, length, map, true};
 ghost use Rattle.std.specs.List.{range_with_len};
@@ -28,7 +28,6 @@ use crate::touching::seen_in;
 use crate::visits::{push_beginning, push_standing};
 use abstract_sched::AbsState;
 use listed::Memory;
-use osek_kernel::Context;
 use row_squeeze::{Link, Links};
 use std::alloc::Global;
 use wcet_atomic_blocks::{LoopInstance, Plant};
@@ -45,38 +44,16 @@ pub fn links(
     requires once { differ same_state states.now ≡ true }
     ensures { IfOk result (λ links. links ≡ words.links_of plant.now states.now task) }
 {
-    links_for(alloc, plant, states, Context::Task(task))
-}
-
-/// The links of the rows of a context, a task or an ISR, in the order of `rows_for`.
-pub fn links_for(
-    alloc: Global,
-    plant: &Plant,
-    states: &[AbsState],
-    subject: Context,
-) -> Result<Links, Memory>
-    requires closed { IsClosed plant.now states.now }
-    requires once { differ same_state states.now ≡ true }
-    ensures { IfOk result (λ links. links ≡ words.links_for plant.now states.now subject) }
-{
     let numbers = numbered(alloc, states)?;
     let running = running(alloc, plant, states)?;
     let running = running.as_slice();
     let goings = goings(alloc, plant, states, &numbers)?;
     let goings = goings.as_slice();
-    let starts = starts(alloc, plant, states, &numbers, running, goings, subject)?;
-    let nodes = positions(alloc, plant, states, starts.as_slice(), subject)?;
+    let starts = starts(alloc, plant, states, &numbers, running, goings, task)?;
+    let nodes = positions(alloc, plant, states, starts.as_slice(), task)?;
     let nodes = nodes.as_slice();
-    let columns = columns(
-        alloc,
-        plant,
-        states,
-        goings,
-        starts.as_slice(),
-        nodes,
-        subject,
-    )?;
-    of_columns(alloc, plant, states, nodes, columns.as_slice(), subject)
+    let columns = columns(alloc, plant, states, goings, starts.as_slice(), nodes, task)?;
+    of_columns(alloc, plant, states, nodes, columns.as_slice(), task)
 }
 
 /// The links of the rows over these columns.
@@ -86,21 +63,19 @@ fn of_columns(
     states: &[AbsState],
     nodes: &[usize],
     columns: &[NumberedColumn],
-    subject: Context,
+    task: usize,
 ) -> Result<Links, Memory>
     requires nodes { ArePositions plant.now nodes.now
-        (columns_in.positions plant.now states.now subject) }
+        (columns_in.positions plant.now states.now task) }
     requires columns { Stand (column_of states.now) (IsColumn plant.now states.now) columns.now
-        (columns_in.columns plant.now states.now subject) }
-    ensures { IfOk result (λ links. links ≡ words.links_for plant.now states.now subject) }
+        (columns_in.columns plant.now states.now task) }
+    ensures { IfOk result (λ links. links ≡ words.links_of plant.now states.now task) }
 {
     let instances = plant.loop_instances(alloc)?;
     let instances = instances.as_slice();
     let backs = back_edges(alloc, instances)?;
     let seen = seen_in(alloc, plant, states, instances, &backs, columns)?;
-    of_seen(
-        alloc, plant, states, instances, nodes, columns, subject, &seen,
-    )
+    of_seen(alloc, plant, states, instances, nodes, columns, task, &seen)
 }
 
 /// The links of the rows, by what is seen of the rows of nodes.
@@ -111,23 +86,23 @@ fn of_seen(
     instances: &[LoopInstance],
     nodes: &[usize],
     columns: &[NumberedColumn],
-    subject: Context,
+    task: usize,
     seen: &[Seen],
 ) -> Result<Links, Memory>
     requires instances { instances.now ≡ loops.loop_instances plant.now.flow
         plant.now.blocks.blocks plant.now.timing.loops }
     requires nodes { ArePositions plant.now nodes.now
-        (columns_in.positions plant.now states.now subject) }
+        (columns_in.positions plant.now states.now task) }
     requires columns { Stand (column_of states.now) (IsColumn plant.now states.now) columns.now
-        (columns_in.columns plant.now states.now subject) }
+        (columns_in.columns plant.now states.now task) }
     requires seen { AreSeen plant.now (map (column_of states.now) columns.now) seen.now }
-    ensures { IfOk result (λ links. links ≡ words.links_for plant.now states.now subject) }
+    ensures { IfOk result (λ links. links ≡ words.links_of plant.now states.now task) }
 {
-    let before = rows_before(alloc, plant, states, instances, subject)?;
-    let behind = rows_behind(alloc, plant, states, instances, nodes, subject)?;
+    let before = rows_before(alloc, plant, states, instances, task)?;
+    let behind = rows_behind(alloc, plant, states, instances, nodes, task)?;
     let mut links = Links::new(alloc);
     push_none(before, &mut links)?;
-    push_links(plant, states, columns, subject, seen, &mut links)?;
+    push_links(plant, states, columns, task, seen, &mut links)?;
     push_none(behind, &mut links)?;
     Ok(links)
 }
@@ -138,14 +113,14 @@ fn rows_before(
     plant: &Plant,
     states: &[AbsState],
     instances: &[LoopInstance],
-    subject: Context,
+    task: usize,
 ) -> Result<usize, Memory>
     ensures { IfOk result (λ count. count
-        ≡ length (families.one_start ∷ families.leaving plant.now states.now subject)) }
+        ≡ length (families.one_start ∷ families.leaving plant.now states.now task)) }
 {
     let mut kinds = RowKinds::new(alloc);
     kinds.push(RowKind::OneStart)?;
-    push_leaving(plant, states, instances, subject, &mut kinds)?;
+    push_leaving(plant, states, instances, task, &mut kinds)?;
     Ok(kinds.len())
 }
 
@@ -156,21 +131,21 @@ fn rows_behind(
     states: &[AbsState],
     instances: &[LoopInstance],
     nodes: &[usize],
-    subject: Context,
+    task: usize,
 ) -> Result<usize, Memory>
     requires nodes { ArePositions plant.now nodes.now
-        (columns_in.positions plant.now states.now subject) }
+        (columns_in.positions plant.now states.now task) }
     requires instances { instances.now ≡ loops.loop_instances plant.now.flow
         plant.now.blocks.blocks plant.now.timing.loops }
-    ensures { IfOk result (λ count. count ≡ length (families.standing plant.now states.now subject
-        ++ (families.beginning plant.now subject
+    ensures { IfOk result (λ count. count ≡ length (families.standing plant.now states.now task
+        ++ (families.beginning plant.now task
         ++ (families.going_round plant.now ++ families.arriving plant.now)))) }
 {
     let mut kinds = RowKinds::new(alloc);
-    push_standing(plant, states, instances, subject, nodes, &mut kinds)?;
-    push_beginning(plant, states, instances, subject, &mut kinds)?;
-    push_going_round(plant, states, instances, subject, &mut kinds)?;
-    push_arriving(plant, states, instances, subject, &mut kinds)?;
+    push_standing(plant, states, instances, task, nodes, &mut kinds)?;
+    push_beginning(plant, states, instances, task, &mut kinds)?;
+    push_going_round(plant, states, instances, task, &mut kinds)?;
+    push_arriving(plant, states, instances, task, &mut kinds)?;
     Ok(kinds.len())
 }
 
@@ -189,17 +164,17 @@ fn push_links(
     plant: &Plant,
     states: &[AbsState],
     columns: &[NumberedColumn],
-    subject: Context,
+    task: usize,
     seen: &[Seen],
     links: &mut Links,
 ) -> Result<(), Memory>
     requires { AreSeen plant.now (map (column_of states.now) columns.now) seen.now }
     ensures { OnOk result (links.new ≡ links.old
-        ++ map (words.link_at plant.now subject (map (column_of states.now) columns.now))
+        ++ map (words.link_at plant.now task (map (column_of states.now) columns.now))
         (range_with_len 0 (length plant.now.flow.nodes))) }
 {
     for node in 0..seen.len() {
-        links.push(link_at(plant, states, columns, subject, seen[node], node))?;
+        links.push(link_at(plant, states, columns, task, seen[node], node))?;
     }
     Ok(())
 }
@@ -209,16 +184,16 @@ fn link_at(
     plant: &Plant,
     states: &[AbsState],
     columns: &[NumberedColumn],
-    subject: Context,
+    task: usize,
     seen: Seen,
     node: usize,
 ) -> Option<Link>
     requires { seen ≡ seen_at plant.now node (map (column_of states.now) columns.now) }
-    ensures { result ≡ words.link_at plant.now subject (map (column_of states.now) columns.now) node }
+    ensures { result ≡ words.link_at plant.now task (map (column_of states.now) columns.now) node }
 {
     let _ = states;
     let _ = columns;
-    if is_first_of(plant, subject, node) {
+    if is_first_of(plant, task, node) {
         None
     } else {
         seen.link()

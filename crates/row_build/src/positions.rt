@@ -1,8 +1,9 @@
 //! The nodes at which contexts may stand at the start.
 
-ghost use Rattle.std.specs.Prelude.{◌≡◌, ◌+◌, ◌<◌, ◌==◌, All, IfOk, Some, false, length, map, slice_get};
+ghost use Rattle.std.specs.Prelude.{◌≡◌, ◌<◌, ◌==◌, All, IfOk, Some, false, length, map, slice_get};
 ghost use Rattle.std.specs.List.{list_any};
 ghost use Rattle.std.specs.Option.{option_map_or};
+ghost use Rattle.osek_kernel.specs.declared.context.Context.TheVariants as contexts;
 ghost use Rattle.osek_kernel.specs.Contexts.{context_at, context_count};
 ghost use Rattle.scheduler_moves.specs.Moves.{entry_block as block_of_entry};
 ghost use Rattle.osek_machine.specs.Loops.{is_this as is_context};
@@ -20,23 +21,12 @@ use osek_kernel::Context;
 use std::alloc::Global;
 use wcet_atomic_blocks::Plant;
 
-/// The block of the subject's entry; none where there is no such context.
-pub(crate) fn entry_block(plant: &Plant, subject: Context) -> Option<usize>
-    ensures { result ≡ block_of_entry plant.now subject }
+/// The block of the task's entry; none where there is no such task.
+pub(crate) fn entry_block(plant: &Plant, task: usize) -> Option<usize>
+    ensures { result ≡ block_of_entry plant.now (contexts.Task task) }
 {
-    match subject {
-        Context::Task(task) => entry_at(plant, 0, task),
-        Context::Isr(isr) => entry_at(plant, plant.system.tasks.len(), isr),
-    }
-}
-
-/// The block of an entry, by its number among those of the contexts from the first on.
-fn entry_at(plant: &Plant, first: usize, number: usize) -> Option<usize>
-    ensures { result ≡ slice_get plant.now.blocks.entries (first + number) }
-{
-    let count = contexts(plant);
-    if first < count && number < count - first {
-        Some(plant.blocks.entry(first + number))
+    if task < contexts(plant) {
+        Some(plant.blocks.entry(task))
     } else {
         None
     }
@@ -59,11 +49,11 @@ pub(crate) fn is_first_at(plant: &Plant, node: usize, block: usize) -> bool
     block < plant.blocks.count() && plant.blocks.first(block) == node
 }
 
-/// Whether the node is the first one of the subject's entry.
-pub(crate) fn is_first_of(plant: &Plant, subject: Context, node: usize) -> bool
-    ensures { result ≡ words.is_first_of plant.now subject node }
+/// Whether the node is the first one of the task's entry.
+pub(crate) fn is_first_of(plant: &Plant, task: usize, node: usize) -> bool
+    ensures { result ≡ words.is_first_of plant.now task node }
 {
-    match entry_block(plant, subject) {
+    match entry_block(plant, task) {
         Some(block) => is_first_at(plant, node, block),
         None => false,
     }
@@ -73,25 +63,25 @@ pub(crate) fn is_first_of(plant: &Plant, subject: Context, node: usize) -> bool
 fn may_stand(
     plant: &Plant,
     states: &[AbsState],
-    subject: Context,
+    task: usize,
     node: usize,
     place: usize,
     start: NumberedStart,
 ) -> bool
     requires exists { node < length plant.now.flow.nodes }
     requires start { IsStart plant.now states.now start }
-    ensures { result ≡ words.may_stand plant.now subject node (context_at plant.now.system place)
+    ensures { result ≡ words.may_stand plant.now task node (context_at plant.now.system place)
         (start_of states.now start) }
 {
     holds_after(plant, states, place, node, start)
-        && (!is_subject(plant, subject, place) || is_first_of(plant, subject, node))
+        && (!is_task(plant, task, place) || is_first_of(plant, task, node))
 }
 
-/// Whether the context at a place is the subject.
-pub(crate) fn is_subject(plant: &Plant, subject: Context, place: usize) -> bool
-    ensures { result ≡ is_context (context_at plant.now.system place) (Some subject) }
+/// Whether the context at a place is the task.
+pub(crate) fn is_task(plant: &Plant, task: usize, place: usize) -> bool
+    ensures { result ≡ is_context (context_at plant.now.system place) (Some (contexts.Task task)) }
 {
-    is_this(Context::at(&plant.system, place), Some(subject))
+    is_this(Context::at(&plant.system, place), Some(Context::Task(task)))
 }
 
 /// Whether the start leaves the context at a place in a block that holds the node.
@@ -117,16 +107,16 @@ pub(crate) fn positions(
     plant: &Plant,
     states: &[AbsState],
     starts: &[NumberedStart],
-    subject: Context,
+    task: usize,
 ) -> Result<Ids, Memory>
     requires starts { Stand (start_of states.now) (IsStart plant.now states.now) starts.now
-        (words.starts plant.now states.now subject) }
+        (words.starts plant.now states.now task) }
     ensures { IfOk result (λ nodes. ArePositions plant.now nodes
-        (words.positions plant.now states.now subject)) }
+        (words.positions plant.now states.now task)) }
 {
     let mut nodes = Ids::new(alloc);
     for node in 0..plant.flow.nodes() {
-        if is_position(plant, states, starts, subject, node) {
+        if is_position(plant, states, starts, task, node) {
             nodes.push(node)?;
         }
     }
@@ -138,39 +128,32 @@ pub(crate) fn is_position(
     plant: &Plant,
     states: &[AbsState],
     starts: &[NumberedStart],
-    subject: Context,
+    task: usize,
     node: usize,
 ) -> bool
     requires exists { node < length plant.now.flow.nodes }
     requires starts { All (IsStart plant.now states.now) starts.now }
-    ensures { result ≡ words.is_position plant.now (map (start_of states.now) starts.now) subject node }
+    ensures { result ≡ words.is_position plant.now (map (start_of states.now) starts.now) task node }
 {
-    any_stands(
-        plant,
-        states,
-        starts,
-        subject,
-        node,
-        plant.flow.context(node),
-    )
+    any_stands(plant, states, starts, task, node, plant.flow.context(node))
 }
 
 fn any_stands(
     plant: &Plant,
     states: &[AbsState],
     starts: &[NumberedStart],
-    subject: Context,
+    task: usize,
     node: usize,
     place: usize,
 ) -> bool
     requires exists { node < length plant.now.flow.nodes }
     requires starts { All (IsStart plant.now states.now) starts.now }
     ensures { result ≡ list_any
-        (words.may_stand plant.now subject node (context_at plant.now.system place))
+        (words.may_stand plant.now task node (context_at plant.now.system place))
         (map (start_of states.now) starts.now) }
 {
     for number in 0..starts.len() {
-        if may_stand(plant, states, subject, node, place, starts[number]) {
+        if may_stand(plant, states, task, node, place, starts[number]) {
             return true;
         }
     }

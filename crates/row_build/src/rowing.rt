@@ -2,7 +2,6 @@
 
 ghost use Rattle.std.specs.Prelude.{◌≡◌, ◌<◌, ◌*◌, ◌≤ℤ◌, ℕ, List, length, pos, true};
 ghost use Rattle.whole_rows.specs.Row.{IsInRange};
-ghost use Rattle.osek_kernel.specs.declared.context.Context.{Context as ContextData};
 ghost use Rattle.wcet_atomic_blocks.specs.declared.loops.LoopInstance.{LoopInstance as InstanceData};
 ghost use Rattle.abstract_sched.specs.declared.states.AbsState.{AbsState as StateData};
 ghost use Rattle.listed.specs.Lists.{differ};
@@ -31,7 +30,7 @@ pub(crate) fn factor(
     states: &[AbsState],
     running: &[Option<Context>],
     instances: &[LoopInstance],
-    subject: Context,
+    task: usize,
     kind: RowKind,
     column: NumberedColumn,
 ) -> Factor
@@ -39,18 +38,18 @@ pub(crate) fn factor(
     requires running { AreRunning plant.now states.now running.now }
     requires kind { IsKind plant.now states.now instances.now kind }
     requires column { IsColumn plant.now states.now column }
-    ensures { entry_of result ≡ (row_of plant.now states.now instances.now subject kind).factor
+    ensures { entry_of result ≡ (row_of plant.now states.now instances.now task kind).factor
         (column_of states.now column) }
 {
     match kind {
         RowKind::OneStart => one_start(states, column),
-        RowKind::Leaves { state } => leaves(plant, states, running, subject, state, column),
+        RowKind::Leaves { state } => leaves(plant, states, running, task, state, column),
         RowKind::Passes { node } => passes(plant, states, node, column),
         RowKind::StandsByStart { place, node } => {
-            stands_by_start(plant, states, subject, place, node, column)
+            stands_by_start(plant, states, task, place, node, column)
         }
         RowKind::StandsInto { place, node } => {
-            stands_into(plant, states, running, subject, place, node, column)
+            stands_into(plant, states, running, task, place, node, column)
         }
         RowKind::StandsOnce { place } => stands_once(plant, states, place, column),
         RowKind::BeginsByMove {
@@ -59,7 +58,7 @@ pub(crate) fn factor(
             after,
         } => begins_by_move(plant, states, running, block, owner, after, column),
         RowKind::BeginsInto { block, owner } => {
-            begins_into(plant, states, running, subject, block, owner, column)
+            begins_into(plant, states, running, task, block, owner, column)
         }
         RowKind::GoesRound { instance } => {
             goes_round_at(plant, states, instances, instance, column)
@@ -93,8 +92,8 @@ fn goes_round_at(
 
 /// The right side of the row of that kind.
 pub(crate) fn right(plant: &Plant, kind: RowKind) -> i128
-    ensures value { (states : List StateData) (instances : List InstanceData)
-        (subject : ContextData) → result ≡ pos (row_of plant.now states instances subject kind).right }
+    ensures value { (states : List StateData) (instances : List InstanceData) (task : ℕ)
+        → result ≡ pos (row_of plant.now states instances task kind).right }
     ensures in_range { IsInRange result }
     ensures not_negative { pos 0 ≤ℤ result }
 {

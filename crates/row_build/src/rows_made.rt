@@ -1,4 +1,4 @@
-//! The rows of a context.
+//! The rows of a task.
 
 ghost use Rattle.std.specs.Prelude.{◌≡◌, IfOk, true};
 ghost use Rattle.listed.specs.Lists.{differ};
@@ -7,7 +7,7 @@ ghost use Rattle.scheduler_moves.specs.Closed.{IsClosed};
 ghost use Rattle.wcet_atomic_blocks.specs.Loops as loops;
 ghost use Rattle.row_build.specs.Columns as columns_in;
 ghost use Rattle.row_build.specs.Families as families;
-ghost use Rattle.row_build.specs.Rows.{rows_of, rows_for as rows_of_context};
+ghost use Rattle.row_build.specs.Rows.{rows_of};
 ghost use Rattle.row_build.specs.Working.Growing.{Stand};
 ghost use Rattle.row_build.specs.Working.Kinds.{IsKind, row_of};
 ghost use Rattle.row_build.specs.Working.Numbered.{ArePositions, AreRunning, IsColumn, column_of};
@@ -36,37 +36,15 @@ pub fn rows(alloc: Global, plant: &Plant, states: &[AbsState], task: usize) -> R
     requires once { differ same_state states.now ≡ true }
     ensures { IfOk result (λ rows. rows ≡ rows_of plant.now states.now task) }
 {
-    rows_for(alloc, plant, states, Context::Task(task))
-}
-
-/// The rows of a context, a task or an ISR, over such a list.
-pub fn rows_for(
-    alloc: Global,
-    plant: &Plant,
-    states: &[AbsState],
-    subject: Context,
-) -> Result<Rows, Memory>
-    requires closed { IsClosed plant.now states.now }
-    requires once { differ same_state states.now ≡ true }
-    ensures { IfOk result (λ rows. rows ≡ rows_of_context plant.now states.now subject) }
-{
     let numbers = numbered(alloc, states)?;
     let running = running(alloc, plant, states)?;
     let running = running.as_slice();
     let goings = goings(alloc, plant, states, &numbers)?;
     let goings = goings.as_slice();
-    let starts = starts(alloc, plant, states, &numbers, running, goings, subject)?;
-    let nodes = positions(alloc, plant, states, starts.as_slice(), subject)?;
+    let starts = starts(alloc, plant, states, &numbers, running, goings, task)?;
+    let nodes = positions(alloc, plant, states, starts.as_slice(), task)?;
     let nodes = nodes.as_slice();
-    let columns = columns(
-        alloc,
-        plant,
-        states,
-        goings,
-        starts.as_slice(),
-        nodes,
-        subject,
-    )?;
+    let columns = columns(alloc, plant, states, goings, starts.as_slice(), nodes, task)?;
     of_columns(
         alloc,
         plant,
@@ -74,7 +52,7 @@ pub fn rows_for(
         running,
         nodes,
         columns.as_slice(),
-        subject,
+        task,
     )
 }
 
@@ -86,19 +64,19 @@ fn of_columns(
     running: &[Option<Context>],
     nodes: &[usize],
     columns: &[NumberedColumn],
-    subject: Context,
+    task: usize,
 ) -> Result<Rows, Memory>
     requires once { differ same_state states.now ≡ true }
     requires running { AreRunning plant.now states.now running.now }
     requires nodes { ArePositions plant.now nodes.now
-        (columns_in.positions plant.now states.now subject) }
+        (columns_in.positions plant.now states.now task) }
     requires columns { Stand (column_of states.now) (IsColumn plant.now states.now) columns.now
-        (columns_in.columns plant.now states.now subject) }
-    ensures { IfOk result (λ rows. rows ≡ rows_of_context plant.now states.now subject) }
+        (columns_in.columns plant.now states.now task) }
+    ensures { IfOk result (λ rows. rows ≡ rows_of plant.now states.now task) }
 {
     let instances = plant.loop_instances(alloc)?;
     let instances = instances.as_slice();
-    let kinds = kinds(alloc, plant, states, instances, nodes, subject)?;
+    let kinds = kinds(alloc, plant, states, instances, nodes, task)?;
     of_kinds(
         alloc,
         plant,
@@ -107,7 +85,7 @@ fn of_columns(
         instances,
         columns,
         kinds.as_slice(),
-        subject,
+        task,
     )
 }
 
@@ -120,21 +98,21 @@ fn of_kinds(
     instances: &[LoopInstance],
     columns: &[NumberedColumn],
     kinds: &[RowKind],
-    subject: Context,
+    task: usize,
 ) -> Result<Rows, Memory>
     requires once { differ same_state states.now ≡ true }
     requires running { AreRunning plant.now states.now running.now }
     requires columns { Stand (column_of states.now) (IsColumn plant.now states.now) columns.now
-        (columns_in.columns plant.now states.now subject) }
-    requires kinds { Stand (row_of plant.now states.now instances.now subject)
+        (columns_in.columns plant.now states.now task) }
+    requires kinds { Stand (row_of plant.now states.now instances.now task)
         (IsKind plant.now states.now instances.now) kinds.now
-        (families.rows plant.now states.now subject) }
-    ensures { IfOk result (λ rows. rows ≡ rows_of_context plant.now states.now subject) }
+        (families.rows plant.now states.now task) }
+    ensures { IfOk result (λ rows. rows ≡ rows_of plant.now states.now task) }
 {
     let costs = costs(alloc, plant, states, columns)?;
     let mut rows = Rows::made(alloc, &costs)?;
     push_rows(
-        alloc, plant, states, running, instances, subject, columns, kinds, &mut rows,
+        alloc, plant, states, running, instances, task, columns, kinds, &mut rows,
     )?;
     Ok(rows)
 }
@@ -146,23 +124,23 @@ fn kinds(
     states: &[AbsState],
     instances: &[LoopInstance],
     nodes: &[usize],
-    subject: Context,
+    task: usize,
 ) -> Result<RowKinds, Memory>
     requires nodes { ArePositions plant.now nodes.now
-        (columns_in.positions plant.now states.now subject) }
+        (columns_in.positions plant.now states.now task) }
     requires instances { instances.now ≡ loops.loop_instances plant.now.flow
         plant.now.blocks.blocks plant.now.timing.loops }
-    ensures { IfOk result (λ kinds. Stand (row_of plant.now states.now instances.now subject)
+    ensures { IfOk result (λ kinds. Stand (row_of plant.now states.now instances.now task)
         (IsKind plant.now states.now instances.now) kinds
-        (families.rows plant.now states.now subject)) }
+        (families.rows plant.now states.now task)) }
 {
     let mut kinds = RowKinds::new(alloc);
     kinds.push(RowKind::OneStart)?;
-    push_leaving(plant, states, instances, subject, &mut kinds)?;
-    push_passing(plant, states, instances, subject, &mut kinds)?;
-    push_standing(plant, states, instances, subject, nodes, &mut kinds)?;
-    push_beginning(plant, states, instances, subject, &mut kinds)?;
-    push_going_round(plant, states, instances, subject, &mut kinds)?;
-    push_arriving(plant, states, instances, subject, &mut kinds)?;
+    push_leaving(plant, states, instances, task, &mut kinds)?;
+    push_passing(plant, states, instances, task, &mut kinds)?;
+    push_standing(plant, states, instances, task, nodes, &mut kinds)?;
+    push_beginning(plant, states, instances, task, &mut kinds)?;
+    push_going_round(plant, states, instances, task, &mut kinds)?;
+    push_arriving(plant, states, instances, task, &mut kinds)?;
     Ok(kinds)
 }

@@ -14,7 +14,7 @@ use crate::factor::Factor;
 use crate::into::{StateTest, into};
 use crate::numbered::{NumberedColumn, NumberedStart};
 use crate::places::is_this;
-use crate::positions::{holds_after, is_subject};
+use crate::positions::{holds_after, is_task};
 use abstract_sched::AbsState;
 use osek_kernel::Context;
 use wcet_atomic_blocks::Plant;
@@ -23,7 +23,7 @@ use wcet_atomic_blocks::Plant;
 pub(crate) fn stands_by_start(
     plant: &Plant,
     states: &[AbsState],
-    subject: Context,
+    task: usize,
     place: usize,
     node: usize,
     column: NumberedColumn,
@@ -31,12 +31,12 @@ pub(crate) fn stands_by_start(
     requires node { node < length plant.now.flow.nodes }
     requires column { IsColumn plant.now states.now column }
     ensures { entry_of result
-        ≡ (words.stands_by_start plant.now subject (context_at plant.now.system place) node).factor
+        ≡ (words.stands_by_start plant.now task (context_at plant.now.system place) node).factor
         (column_of states.now column) }
 {
     Factor::of(
         stands_at(states, node, column),
-        starts_at(plant, states, subject, place, node, column),
+        starts_at(plant, states, task, place, node, column),
     )
 }
 
@@ -45,7 +45,7 @@ pub(crate) fn stands_into(
     plant: &Plant,
     states: &[AbsState],
     running: &[Option<Context>],
-    subject: Context,
+    task: usize,
     place: usize,
     node: usize,
     column: NumberedColumn,
@@ -55,13 +55,13 @@ pub(crate) fn stands_into(
     requires node { node < length plant.now.flow.nodes }
     requires column { IsColumn plant.now states.now column }
     ensures { entry_of result
-        ≡ (words.stands_into plant.now subject (context_at plant.now.system place) node).factor
+        ≡ (words.stands_into plant.now task (context_at plant.now.system place) node).factor
         (column_of states.now column) }
 {
     let test = StateTest::RunsAt { place, node };
     Factor::of(
         stands_at(states, node, column),
-        into(plant, states, running, subject, test, column),
+        into(plant, states, running, task, test, column),
     )
 }
 
@@ -95,7 +95,7 @@ fn stands_at(states: &[AbsState], node: usize, column: NumberedColumn) -> bool
 fn starts_at(
     plant: &Plant,
     states: &[AbsState],
-    subject: Context,
+    task: usize,
     place: usize,
     node: usize,
     column: NumberedColumn,
@@ -103,11 +103,11 @@ fn starts_at(
     requires node { node < length plant.now.flow.nodes }
     requires column { IsColumn plant.now states.now column }
     ensures { words.counted result ≡ words.starts_that
-        (words.leaves_at plant.now subject (context_at plant.now.system place) node)
+        (words.leaves_at plant.now task (context_at plant.now.system place) node)
         (column_of states.now column) }
 {
     match column {
-        NumberedColumn::Starts { start } => leaves_at(plant, states, subject, place, node, start),
+        NumberedColumn::Starts { start } => leaves_at(plant, states, task, place, node, start),
         _ => false,
     }
 }
@@ -115,17 +115,17 @@ fn starts_at(
 fn leaves_at(
     plant: &Plant,
     states: &[AbsState],
-    subject: Context,
+    task: usize,
     place: usize,
     node: usize,
     start: NumberedStart,
 ) -> bool
     requires node { node < length plant.now.flow.nodes }
     requires start { IsStart plant.now states.now start }
-    ensures { result ≡ words.leaves_at plant.now subject (context_at plant.now.system place) node
+    ensures { result ≡ words.leaves_at plant.now task (context_at plant.now.system place) node
         (start_of states.now start) }
 {
-    is_subject(plant, subject, place) || holds_after(plant, states, place, node, start)
+    is_task(plant, task, place) || holds_after(plant, states, place, node, start)
 }
 
 fn stands_anywhere(plant: &Plant, states: &[AbsState], place: usize, column: NumberedColumn) -> bool

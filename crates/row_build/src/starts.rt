@@ -2,6 +2,7 @@
 
 ghost use Rattle.std.specs.Prelude.{◌≡◌, ◌<◌, [], ◌∷◌, All, IfOk, OnOk, filter, length, map, if◌then◌else◌};
 ghost use Rattle.std.specs.List.{range_with_len};
+ghost use Rattle.osek_kernel.specs.declared.context.Context.TheVariants as contexts;
 ghost use Rattle.scheduler_moves.specs.Closed.{IsClosed};
 ghost use Rattle.scheduler_moves.specs.Moves as moves;
 ghost use Rattle.row_build.specs.Columns as words;
@@ -20,7 +21,7 @@ use std::alloc::Global;
 use std::collections::BTreeMap;
 use wcet_atomic_blocks::Plant;
 
-/// The starts of the subject's activations: modes in order, then moves by state and place.
+/// The starts of the task's activations: modes in order, then moves by state and place.
 pub(crate) fn starts(
     alloc: Global,
     plant: &Plant,
@@ -28,7 +29,7 @@ pub(crate) fn starts(
     numbers: &BTreeMap<AbsState, usize>,
     running: &[Option<Context>],
     goings: &[NumberedMove],
-    subject: Context,
+    task: usize,
 ) -> Result<NumberedStarts, Memory>
     requires closed { IsClosed plant.now states.now }
     requires numbers { AreNumbers numbers.now states.now (length states.now) }
@@ -36,32 +37,32 @@ pub(crate) fn starts(
     requires goings { Stand (going_of states.now) (IsMove states.now) goings.now
         (words.goings plant.now states.now) }
     ensures { IfOk result (λ found. Stand (start_of states.now) (IsStart plant.now states.now)
-        found (words.starts plant.now states.now subject)) }
+        found (words.starts plant.now states.now task)) }
 {
     let mut found = NumberedStarts::new(alloc);
-    push_modes(alloc, plant, states, numbers, subject, &mut found)?;
-    push_activating(plant, states, running, goings, subject, &mut found)?;
+    push_modes(alloc, plant, states, numbers, task, &mut found)?;
+    push_activating(plant, states, running, goings, task, &mut found)?;
     Ok(found)
 }
 
-/// Adds the modes in which the subject is active from the start on.
+/// Adds the modes in which the task is active from the start on.
 fn push_modes(
     alloc: Global,
     plant: &Plant,
     states: &[AbsState],
     numbers: &BTreeMap<AbsState, usize>,
-    subject: Context,
+    task: usize,
     found: &mut NumberedStarts,
 ) -> Result<(), Memory>
     requires closed { IsClosed plant.now states.now }
     requires numbers { AreNumbers numbers.now states.now (length states.now) }
     ensures { OnOk result (Adds (start_of states.now) (IsStart plant.now states.now) found.old
         found.new (map words.In (filter
-        (λ mode. words.is_active_in (moves.initial plant.now mode) subject)
+        (λ mode. words.is_active_in (moves.initial plant.now mode) (contexts.Task task))
         (range_with_len 0 (length plant.now.system.modes))))) }
 {
     for mode in 0..plant.system.modes.len() {
-        push_mode(alloc, plant, states, numbers, subject, mode, found)?;
+        push_mode(alloc, plant, states, numbers, task, mode, found)?;
     }
     Ok(())
 }
@@ -71,7 +72,7 @@ fn push_mode(
     plant: &Plant,
     states: &[AbsState],
     numbers: &BTreeMap<AbsState, usize>,
-    subject: Context,
+    task: usize,
     mode: usize,
     found: &mut NumberedStarts,
 ) -> Result<(), Memory>
@@ -80,34 +81,34 @@ fn push_mode(
     requires numbers { AreNumbers numbers.now states.now (length states.now) }
     ensures { OnOk result (Adds (start_of states.now) (IsStart plant.now states.now) found.old
         found.new (map words.In
-        (if words.is_active_in (moves.initial plant.now mode) subject
+        (if words.is_active_in (moves.initial plant.now mode) (contexts.Task task)
         then mode ∷ [] else []))) }
 {
     let state = initial(alloc, plant, mode)?;
-    if is_active_in(&state, subject) {
+    if is_active_in(&state, Context::Task(task)) {
         let after = number_of(numbers, states, &state);
         found.push(NumberedStart::In { mode, after })?;
     }
     Ok(())
 }
 
-/// Adds the moves that activate the subject.
+/// Adds the moves that activate the task.
 fn push_activating(
     plant: &Plant,
     states: &[AbsState],
     running: &[Option<Context>],
     goings: &[NumberedMove],
-    subject: Context,
+    task: usize,
     found: &mut NumberedStarts,
 ) -> Result<(), Memory>
     requires running { AreRunning plant.now states.now running.now }
     requires goings { All (IsMove states.now) goings.now }
     ensures { OnOk result (Adds (start_of states.now) (IsStart plant.now states.now) found.old
-        found.new (map words.By (filter (words.activates plant.now subject)
+        found.new (map words.By (filter (words.activates plant.now (contexts.Task task))
         (map (going_of states.now) goings.now)))) }
 {
     for place in 0..goings.len() {
-        push_if_activating(plant, states, running, goings[place], subject, found)?;
+        push_if_activating(plant, states, running, goings[place], task, found)?;
     }
     Ok(())
 }
@@ -117,17 +118,17 @@ fn push_if_activating(
     states: &[AbsState],
     running: &[Option<Context>],
     going: NumberedMove,
-    subject: Context,
+    task: usize,
     found: &mut NumberedStarts,
 ) -> Result<(), Memory>
     requires running { AreRunning plant.now states.now running.now }
     requires within { IsMove states.now going }
     ensures { OnOk result (Adds (start_of states.now) (IsStart plant.now states.now) found.old
         found.new (map words.By
-        (if words.activates plant.now subject (going_of states.now going)
+        (if words.activates plant.now (contexts.Task task) (going_of states.now going)
         then going_of states.now going ∷ [] else []))) }
 {
-    if activates(plant, states, running, subject, going) {
+    if activates(plant, states, running, Context::Task(task), going) {
         found.push(NumberedStart::By { going })?;
     }
     Ok(())

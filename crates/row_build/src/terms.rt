@@ -25,7 +25,7 @@ pub(crate) fn push_rows(
     states: &[AbsState],
     running: &[Option<Context>],
     instances: &[LoopInstance],
-    subject: Context,
+    task: usize,
     columns: &[NumberedColumn],
     kinds: &[RowKind],
     rows: &mut Rows,
@@ -36,7 +36,7 @@ pub(crate) fn push_rows(
     requires columns { All (IsColumn plant.now states.now) columns.now }
     requires costs { length rows.old.costs ≡ length columns.now }
     ensures { OnOk result (rows.new ≡ with_rows (map (column_of states.now) columns.now) rows.old
-        (map (row_of plant.now states.now instances.now subject) kinds.now)) }
+        (map (row_of plant.now states.now instances.now task) kinds.now)) }
 {
     for number in 0..kinds.len() {
         push_kind(
@@ -45,7 +45,7 @@ pub(crate) fn push_rows(
             states,
             running,
             instances,
-            subject,
+            task,
             columns,
             kinds[number],
             rows,
@@ -60,7 +60,7 @@ fn push_kind(
     states: &[AbsState],
     running: &[Option<Context>],
     instances: &[LoopInstance],
-    subject: Context,
+    task: usize,
     columns: &[NumberedColumn],
     kind: RowKind,
     rows: &mut Rows,
@@ -71,10 +71,10 @@ fn push_kind(
     requires columns { All (IsColumn plant.now states.now) columns.now }
     requires costs { length rows.old.costs ≡ length columns.now }
     ensures { OnOk result (rows.new ≡ with_rows (map (column_of states.now) columns.now) rows.old
-        (row_of plant.now states.now instances.now subject kind ∷ [])) }
+        (row_of plant.now states.now instances.now task kind ∷ [])) }
 {
     let left = terms(
-        alloc, plant, states, running, instances, subject, columns, kind,
+        alloc, plant, states, running, instances, task, columns, kind,
     )?;
     rows.push_row(&left, right(plant, kind))
 }
@@ -86,7 +86,7 @@ fn terms(
     states: &[AbsState],
     running: &[Option<Context>],
     instances: &[LoopInstance],
-    subject: Context,
+    task: usize,
     columns: &[NumberedColumn],
     kind: RowKind,
 ) -> Result<Terms, Memory>
@@ -95,7 +95,7 @@ fn terms(
     requires kind { IsKind plant.now states.now instances.now kind }
     requires columns { All (IsColumn plant.now states.now) columns.now }
     ensures { IfOk result (AreOf (entries_of
-        (row_of plant.now states.now instances.now subject kind)
+        (row_of plant.now states.now instances.now task kind)
         (map (column_of states.now) columns.now))) }
 {
     let mut terms = Terms::new(alloc);
@@ -105,7 +105,7 @@ fn terms(
             states,
             running,
             instances,
-            subject,
+            task,
             kind,
             columns[column],
         );

@@ -16,7 +16,6 @@ use crate::positions::contexts;
 use crate::standing::is_owned;
 use abstract_sched::AbsState;
 use listed::Memory;
-use osek_kernel::Context;
 use wcet_atomic_blocks::{LoopInstance, Plant};
 
 // ---- Family 4
@@ -26,17 +25,17 @@ pub(crate) fn push_standing(
     plant: &Plant,
     states: &[AbsState],
     instances: &[LoopInstance],
-    subject: Context,
+    task: usize,
     nodes: &[usize],
     kinds: &mut RowKinds,
 ) -> Result<(), Memory>
-    requires { ArePositions plant.now nodes.now (columns.positions plant.now states.now subject) }
-    ensures { OnOk result (Adds (row_of plant.now states.now instances.now subject)
+    requires { ArePositions plant.now nodes.now (columns.positions plant.now states.now task) }
+    ensures { OnOk result (Adds (row_of plant.now states.now instances.now task)
         (IsKind plant.now states.now instances.now) kinds.old kinds.new
-        (words.standing plant.now states.now subject)) }
+        (words.standing plant.now states.now task)) }
 {
-    push_nodes(plant, states, instances, subject, nodes, kinds)?;
-    push_owners(plant, states, instances, subject, nodes, kinds)?;
+    push_nodes(plant, states, instances, task, nodes, kinds)?;
+    push_owners(plant, states, instances, task, nodes, kinds)?;
     Ok(())
 }
 
@@ -44,17 +43,17 @@ fn push_nodes(
     plant: &Plant,
     states: &[AbsState],
     instances: &[LoopInstance],
-    subject: Context,
+    task: usize,
     nodes: &[usize],
     kinds: &mut RowKinds,
 ) -> Result<(), Memory>
     requires { All (λ node. node < length plant.now.flow.nodes) nodes.now }
-    ensures { OnOk result (Adds (row_of plant.now states.now instances.now subject)
+    ensures { OnOk result (Adds (row_of plant.now states.now instances.now task)
         (IsKind plant.now states.now instances.now) kinds.old kinds.new
-        (flat_map (words.standing_at plant.now subject) nodes.now)) }
+        (flat_map (words.standing_at plant.now task) nodes.now)) }
 {
     for number in 0..nodes.len() {
-        push_node(plant, states, instances, subject, nodes[number], kinds)?;
+        push_node(plant, states, instances, task, nodes[number], kinds)?;
     }
     Ok(())
 }
@@ -63,18 +62,18 @@ fn push_node(
     plant: &Plant,
     states: &[AbsState],
     instances: &[LoopInstance],
-    subject: Context,
+    task: usize,
     node: usize,
     kinds: &mut RowKinds,
 ) -> Result<(), Memory>
     requires { node < length plant.now.flow.nodes }
-    ensures { OnOk result (Adds (row_of plant.now states.now instances.now subject)
+    ensures { OnOk result (Adds (row_of plant.now states.now instances.now task)
         (IsKind plant.now states.now instances.now) kinds.old kinds.new
-        (words.standing_at plant.now subject node)) }
+        (words.standing_at plant.now task node)) }
 {
     let _ = states;
     let _ = instances;
-    let _ = subject;
+    let _ = task;
     let place = plant.flow.context(node);
     kinds.push(RowKind::StandsByStart { place, node })?;
     kinds.push(RowKind::StandsInto { place, node })?;
@@ -85,11 +84,11 @@ fn push_owners(
     plant: &Plant,
     states: &[AbsState],
     instances: &[LoopInstance],
-    subject: Context,
+    task: usize,
     nodes: &[usize],
     kinds: &mut RowKinds,
 ) -> Result<(), Memory>
-    ensures { OnOk result (Adds (row_of plant.now states.now instances.now subject)
+    ensures { OnOk result (Adds (row_of plant.now states.now instances.now task)
         (IsKind plant.now states.now instances.now) kinds.old kinds.new
         (map (words.stands_once plant.now) (filter
         (λ context. list_any (words.is_owned plant.now context) nodes.now)
@@ -97,7 +96,7 @@ fn push_owners(
         (range_with_len 0 (context_count plant.now.system)))))) }
 {
     for place in 0..contexts(plant) {
-        push_owner(plant, states, instances, subject, nodes, place, kinds)?;
+        push_owner(plant, states, instances, task, nodes, place, kinds)?;
     }
     Ok(())
 }
@@ -106,12 +105,12 @@ fn push_owner(
     plant: &Plant,
     states: &[AbsState],
     instances: &[LoopInstance],
-    subject: Context,
+    task: usize,
     nodes: &[usize],
     place: usize,
     kinds: &mut RowKinds,
 ) -> Result<(), Memory>
-    ensures { OnOk result (Adds (row_of plant.now states.now instances.now subject)
+    ensures { OnOk result (Adds (row_of plant.now states.now instances.now task)
         (IsKind plant.now states.now instances.now) kinds.old kinds.new
         (map (words.stands_once plant.now)
         (if list_any (words.is_owned plant.now (context_at plant.now.system place)) nodes.now
@@ -119,7 +118,7 @@ fn push_owner(
 {
     let _ = states;
     let _ = instances;
-    let _ = subject;
+    let _ = task;
     if owns_any(plant, place, nodes) {
         kinds.push(RowKind::StandsOnce { place })?;
     }
@@ -141,20 +140,20 @@ fn owns_any(plant: &Plant, place: usize, nodes: &[usize]) -> bool
 
 // ---- Family 5
 
-/// Adds two rows for each block but that of the subject's entry.
+/// Adds two rows for each block but that of the task's entry.
 pub(crate) fn push_beginning(
     plant: &Plant,
     states: &[AbsState],
     instances: &[LoopInstance],
-    subject: Context,
+    task: usize,
     kinds: &mut RowKinds,
 ) -> Result<(), Memory>
-    ensures { OnOk result (Adds (row_of plant.now states.now instances.now subject)
+    ensures { OnOk result (Adds (row_of plant.now states.now instances.now task)
         (IsKind plant.now states.now instances.now) kinds.old kinds.new
-        (words.beginning plant.now subject)) }
+        (words.beginning plant.now task)) }
 {
     for block in 0..plant.blocks.count() {
-        push_if_begun(plant, states, instances, subject, block, kinds)?;
+        push_if_begun(plant, states, instances, task, block, kinds)?;
     }
     Ok(())
 }
@@ -163,20 +162,20 @@ fn push_if_begun(
     plant: &Plant,
     states: &[AbsState],
     instances: &[LoopInstance],
-    subject: Context,
+    task: usize,
     block: usize,
     kinds: &mut RowKinds,
 ) -> Result<(), Memory>
     requires { block < length plant.now.blocks.blocks }
-    ensures { OnOk result (Adds (row_of plant.now states.now instances.now subject)
+    ensures { OnOk result (Adds (row_of plant.now states.now instances.now task)
         (IsKind plant.now states.now instances.now) kinds.old kinds.new
-        (flat_map (words.beginning_at plant.now subject)
-        (if not (columns.is_own_entry plant.now subject block) then block ∷ [] else []))) }
+        (flat_map (words.beginning_at plant.now task)
+        (if not (columns.is_own_entry plant.now task block) then block ∷ [] else []))) }
 {
-    if is_own_entry(plant, subject, block) {
+    if is_own_entry(plant, task, block) {
         Ok(())
     } else {
-        push_begun(plant, states, instances, subject, block, kinds)
+        push_begun(plant, states, instances, task, block, kinds)
     }
 }
 
@@ -184,18 +183,18 @@ fn push_begun(
     plant: &Plant,
     states: &[AbsState],
     instances: &[LoopInstance],
-    subject: Context,
+    task: usize,
     block: usize,
     kinds: &mut RowKinds,
 ) -> Result<(), Memory>
     requires { block < length plant.now.blocks.blocks }
-    ensures { OnOk result (Adds (row_of plant.now states.now instances.now subject)
+    ensures { OnOk result (Adds (row_of plant.now states.now instances.now task)
         (IsKind plant.now states.now instances.now) kinds.old kinds.new
-        (words.beginning_at plant.now subject block)) }
+        (words.beginning_at plant.now task block)) }
 {
     let _ = states;
     let _ = instances;
-    let _ = subject;
+    let _ = task;
     let owner = plant.blocks.owner(block);
     let after = plant.blocks.behind(block);
     kinds.push(RowKind::BeginsByMove {

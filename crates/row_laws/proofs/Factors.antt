@@ -2,6 +2,7 @@
 use Rattle.std.proofs.Common.{◌≡◌, ℕ, ◌+◌, ◌≤◌, Bool, true, false, ℤ, pos, ◌+ℤ◌, ◌-ℤ◌, refl, arith}
 use Rattle.std.specs.Prelude.{not, ◌&&◌, ◌==◌, nat_eq, unsigned_abs}
 use Rattle.osek_kernel.specs.declared.context.Context.{Context}
+use Rattle.osek_kernel.specs.declared.context.Context.TheVariants as contexts
 use Rattle.wcet_atomic_blocks.specs.declared.block.Beginning.{Beginning}
 use Rattle.wcet_atomic_blocks.specs.Plants.{PlantData}
 use Rattle.abstract_sched.specs.declared.states.AbsState.{AbsState}
@@ -61,10 +62,10 @@ stands-size test (Goes along) = omega arith
 stands-size test (Begins block) = omega arith
 stands-size test (Stands node) = at_most_one (test node)
 
-into-size : (plant : PlantData) (subject : Context) (test : AbsState → Bool) (column : Column) → unsigned_abs (into plant subject test column) ≤ 2
-into-size plant subject test column =
+into-size : (plant : PlantData) (task : ℕ) (test : AbsState → Bool) (column : Column) → unsigned_abs (into plant task test column) ≤ 2
+into-size plant task test column =
     let starts = (λ (start : Start). test (columns.state_after plant start)) in
-    let moves = (λ (going : Going). test going.move.to && not (columns.ends_in plant subject going)) in
+    let moves = (λ (going : Going). test going.move.to && not (columns.ends_in plant (contexts.Task task) going)) in
     sum-size (starts_that starts column) (moves_that moves column) 1 1 (starts-size starts column) (moves-size moves column)
 
 -- ---- Rows whose factors are at most 5
@@ -88,19 +89,19 @@ less-size row column a b m is first second few =
     let size = difference-size a b 1 m first second in
     rw is (omega arith)
 
-pub by_start-size : (plant : PlantData) (subject : Context) (column : Column) (context : Context) (node : ℕ)
-    → size_at column (families.stands_by_start plant subject context node) ≤ 5
-by_start-size plant subject column context node =
-    less-size (families.stands_by_start plant subject context node) column (stands_that (nat_eq node) column)
-    (starts_that (families.leaves_at plant subject context node) column) 1 refl
-    (stands-size (nat_eq node) column) (starts-size (families.leaves_at plant subject context node) column) (omega arith)
+pub by_start-size : (plant : PlantData) (task : ℕ) (column : Column) (context : Context) (node : ℕ)
+    → size_at column (families.stands_by_start plant task context node) ≤ 5
+by_start-size plant task column context node =
+    less-size (families.stands_by_start plant task context node) column (stands_that (nat_eq node) column)
+    (starts_that (families.leaves_at plant task context node) column) 1 refl
+    (stands-size (nat_eq node) column) (starts-size (families.leaves_at plant task context node) column) (omega arith)
 
-pub into_node-size : (plant : PlantData) (subject : Context) (column : Column) (context : Context) (node : ℕ)
-    → size_at column (families.stands_into plant subject context node) ≤ 5
-into_node-size plant subject column context node =
-    less-size (families.stands_into plant subject context node) column (stands_that (nat_eq node) column)
-    (into plant subject (families.runs_at plant subject context node) column) 2 refl
-    (stands-size (nat_eq node) column) (into-size plant subject (families.runs_at plant subject context node) column) (omega arith)
+pub into_node-size : (plant : PlantData) (task : ℕ) (column : Column) (context : Context) (node : ℕ)
+    → size_at column (families.stands_into plant task context node) ≤ 5
+into_node-size plant task column context node =
+    less-size (families.stands_into plant task context node) column (stands_that (nat_eq node) column)
+    (into plant task (families.runs_at plant task context node) column) 2 refl
+    (stands-size (nat_eq node) column) (into-size plant task (families.runs_at plant task context node) column) (omega arith)
 
 pub stands_once-size : (plant : PlantData) (column : Column) (context : Context) → size_at column (families.stands_once plant context) ≤ 5
 stands_once-size plant column context =
@@ -114,12 +115,12 @@ by_move-size plant column number begin =
     (moves_that (families.begins_block plant begin) column) 1 refl
     (begins-size (nat_eq number) column) (moves-size (families.begins_block plant begin) column) (omega arith)
 
-pub into_block-size : (plant : PlantData) (subject : Context) (column : Column) (number : ℕ) (context : Context)
-    → size_at column (families.begins_into plant subject number context) ≤ 5
-into_block-size plant subject column number context =
-    less-size (families.begins_into plant subject number context) column (begins_that (nat_eq number) column)
-    (into plant subject (families.runs_in_block plant subject context number) column) 2 refl
-    (begins-size (nat_eq number) column) (into-size plant subject (families.runs_in_block plant subject context number) column) (omega arith)
+pub into_block-size : (plant : PlantData) (task : ℕ) (column : Column) (number : ℕ) (context : Context)
+    → size_at column (families.begins_into plant task number context) ≤ 5
+into_block-size plant task column number context =
+    less-size (families.begins_into plant task number context) column (begins_that (nat_eq number) column)
+    (into plant task (families.runs_in_block plant task context number) column) 2 refl
+    (begins-size (nat_eq number) column) (into-size plant task (families.runs_in_block plant task context number) column) (omega arith)
 
 pub taken-size : (source : ℕ) (column : Column) → unsigned_abs (families.taken source column) ≤ 2
 taken-size source column =
@@ -151,15 +152,15 @@ come_only : (b : Bool) (n : ℕ) → unsigned_abs (pos 0 -ℤ (counted b +ℤ po
 come_only true n = omega arith
 come_only false n = omega arith
 
-pub leaves-size : (plant : PlantData) (subject : Context) (column : Column) (state : AbsState)
-    → size_at column (families.leaves plant subject state) ≤ one (same_state state (left_at plant column)) + one (same_state state (come_at plant column))
-leaves-size plant subject (Starts start) state =
+pub leaves-size : (plant : PlantData) (task : ℕ) (column : Column) (state : AbsState)
+    → size_at column (families.leaves plant task state) ≤ one (same_state state (left_at plant column)) + one (same_state state (come_at plant column))
+leaves-size plant task (Starts start) state =
     come_only (same_state state (columns.state_after plant start)) (one (same_state state (initial plant 0)))
-leaves-size plant subject (Moves going) state =
-    let ends = columns.ends_in plant subject going in
+leaves-size plant task (Moves going) state =
+    let ends = columns.ends_in plant (contexts.Task task) going in
     difference-size (counted (same_state state going.from)) (pos 0 +ℤ counted (same_state state going.move.to && not ends))
     (one (same_state state going.from)) (one (same_state state going.move.to))
     (counted-size (same_state state going.from)) (into_once (same_state state going.move.to) (not ends))
-leaves-size plant subject (Goes along) state = none (one (same_state state (initial plant 0))) (one (same_state state (initial plant 0)))
-leaves-size plant subject (Begins block) state = none (one (same_state state (initial plant 0))) (one (same_state state (initial plant 0)))
-leaves-size plant subject (Stands node) state = none (one (same_state state (initial plant 0))) (one (same_state state (initial plant 0)))
+leaves-size plant task (Goes along) state = none (one (same_state state (initial plant 0))) (one (same_state state (initial plant 0)))
+leaves-size plant task (Begins block) state = none (one (same_state state (initial plant 0))) (one (same_state state (initial plant 0)))
+leaves-size plant task (Stands node) state = none (one (same_state state (initial plant 0))) (one (same_state state (initial plant 0)))

@@ -7,6 +7,7 @@ use Rattle.std.proofs.lemmas.List.FromFn.{length-range_with_len}
 use Rattle.std.proofs.lemmas.List.Sums.{sum_by-append, sum_by-cons, sum_by-le-sum_by}
 use Rattle.listed.specs.Lists.{differ}
 use Rattle.osek_kernel.specs.declared.context.Context.{Context}
+use Rattle.osek_kernel.specs.declared.context.Context.TheVariants as contexts
 use Rattle.osek_kernel.specs.Contexts.{context_at, context_count}
 use Rattle.wcet_atomic_blocks.specs.declared.block.Beginning.{Beginning}
 use Rattle.wcet_atomic_blocks.specs.declared.block.Block.{Block}
@@ -48,25 +49,25 @@ two_rows f a b most first second =
 
 -- ---- 2: states that are left
 
-pub leaving-size : (plant : PlantData) (states : List AbsState) (subject : Context) (column : Column) → differ same_state states ≡ true
-    → sum_by (size_at column) (families.leaving plant states subject) ≤ 2
-leaving-size plant states subject column apart =
-    let kept = filter (λ state. columns.is_active_in state subject) states in
-    let whole = sum-map (size_at column) (families.leaves plant subject) kept in
-    let all = sum-filter (λ state. size_at column (families.leaves plant subject state)) (λ state. columns.is_active_in state subject) states in
-    let each = sum_by-le-sum_by (λ state. size_at column (families.leaves plant subject state))
-    (λ state. one (same_state state (left_at plant column)) + one (same_state state (come_at plant column))) states (leaves-size plant subject column) in
+pub leaving-size : (plant : PlantData) (states : List AbsState) (task : ℕ) (column : Column) → differ same_state states ≡ true
+    → sum_by (size_at column) (families.leaving plant states task) ≤ 2
+leaving-size plant states task column apart =
+    let kept = filter (λ state. columns.is_active_in state (contexts.Task task)) states in
+    let whole = sum-map (size_at column) (families.leaves plant task) kept in
+    let all = sum-filter (λ state. size_at column (families.leaves plant task state)) (λ state. columns.is_active_in state (contexts.Task task)) states in
+    let each = sum_by-le-sum_by (λ state. size_at column (families.leaves plant task state))
+    (λ state. one (same_state state (left_at plant column)) + one (same_state state (come_at plant column))) states (leaves-size plant task column) in
     let parts = sum-plus (λ state. one (same_state state (left_at plant column))) (λ state. one (same_state state (come_at plant column))) states in
     let left = same-once states (left_at plant column) apart in
     let come = same-once states (come_at plant column) apart in
     omega arith
 
-pub leaving-total : (plant : PlantData) (states : List AbsState) (subject : Context) (f : Row → ℕ)
-    → ((state : AbsState) → f (families.leaves plant subject state) ≤ 0) → sum_by f (families.leaving plant states subject) ≤ 0
-leaving-total plant states subject f small =
-    let kept = filter (λ state. columns.is_active_in state subject) states in
-    let whole = sum-map f (families.leaves plant subject) kept in
-    let each = sum-each (λ state. f (families.leaves plant subject state)) 0 kept small in
+pub leaving-total : (plant : PlantData) (states : List AbsState) (task : ℕ) (f : Row → ℕ)
+    → ((state : AbsState) → f (families.leaves plant task state) ≤ 0) → sum_by f (families.leaving plant states task) ≤ 0
+leaving-total plant states task f small =
+    let kept = filter (λ state. columns.is_active_in state (contexts.Task task)) states in
+    let whole = sum-map f (families.leaves plant task) kept in
+    let each = sum-each (λ state. f (families.leaves plant task state)) 0 kept small in
     omega arith
 
 -- ---- 3: nodes that are left
@@ -78,19 +79,19 @@ passing-total plant f most small = over_range f (families.passes plant) (length 
 -- ---- 4: contexts that stand
 
 -- a bound on each of the rows
-pub record AreStandingBelow (plant : PlantData) (subject : Context) (f : Row → ℕ) (most : ℕ) : Type 0 where
-  pub by_start : (context : Context) (node : ℕ) → f (families.stands_by_start plant subject context node) ≤ most
-  pub into : (context : Context) (node : ℕ) → f (families.stands_into plant subject context node) ≤ most
+pub record AreStandingBelow (plant : PlantData) (task : ℕ) (f : Row → ℕ) (most : ℕ) : Type 0 where
+  pub by_start : (context : Context) (node : ℕ) → f (families.stands_by_start plant task context node) ≤ most
+  pub into : (context : Context) (node : ℕ) → f (families.stands_into plant task context node) ≤ most
   pub once : (context : Context) → f (families.stands_once plant context) ≤ most
 
-pub standing-total : (plant : PlantData) (states : List AbsState) (subject : Context) (f : Row → ℕ) (most : ℕ) → AreStandingBelow plant subject f most
-    → sum_by f (families.standing plant states subject) ≤ length plant.flow.nodes * (2 * most) + context_count plant.system * most
-standing-total plant states subject f most small =
-    let nodes = columns.positions plant states subject in
+pub standing-total : (plant : PlantData) (states : List AbsState) (task : ℕ) (f : Row → ℕ) (most : ℕ) → AreStandingBelow plant task f most
+    → sum_by f (families.standing plant states task) ≤ length plant.flow.nodes * (2 * most) + context_count plant.system * most
+standing-total plant states task f most small =
+    let nodes = columns.positions plant states task in
     let all = map (context_at plant.system) (range_with_len 0 (context_count plant.system)) in
     let owning = (λ (context : Context). list_any (families.is_owned plant context) nodes) in
-    let whole = sum_by-append f (flat_map (families.standing_at plant subject) nodes) (map (families.stands_once plant) (filter owning all)) in
-    let first = over_kept f (families.standing_at plant subject) (columns.is_position plant (columns.starts plant states subject) subject)
+    let whole = sum_by-append f (flat_map (families.standing_at plant task) nodes) (map (families.stands_once plant) (filter owning all)) in
+    let first = over_kept f (families.standing_at plant task) (columns.is_position plant (columns.starts plant states task) task)
     (length plant.flow.nodes) (2 * most) (λ node. at node (columns.owner_of plant node)) in
     let owners = sum-map f (families.stands_once plant) (filter owning all) in
     let kept = sum-filter (λ context. f (families.stands_once plant context)) owning all in
@@ -98,26 +99,26 @@ standing-total plant states subject f most small =
     (λ i. small.once (context_at plant.system i)) in
     omega arith
   where
-    at : (node : ℕ) (owner : Option Context) → sum_by f (option_map_or (λ context. families.standing_rows plant subject context node) owner []) ≤ 2 * most
+    at : (node : ℕ) (owner : Option Context) → sum_by f (option_map_or (λ context. families.standing_rows plant task context node) owner []) ≤ 2 * most
     at node None = omega arith
     at node (Some context) =
-        two_rows f (families.stands_by_start plant subject context node) (families.stands_into plant subject context node) most
+        two_rows f (families.stands_by_start plant task context node) (families.stands_into plant task context node) most
         (small.by_start context node) (small.into context node)
 
 -- ---- 5: blocks that are begun
 
-pub record AreBeginningBelow (plant : PlantData) (subject : Context) (f : Row → ℕ) (most : ℕ) : Type 0 where
+pub record AreBeginningBelow (plant : PlantData) (task : ℕ) (f : Row → ℕ) (most : ℕ) : Type 0 where
   pub by_move : (number : ℕ) (begin : Beginning) → f (families.begins_by_move plant number begin) ≤ most
-  pub into : (number : ℕ) (context : Context) → f (families.begins_into plant subject number context) ≤ most
+  pub into : (number : ℕ) (context : Context) → f (families.begins_into plant task number context) ≤ most
 
-pub beginning-total : (plant : PlantData) (subject : Context) (f : Row → ℕ) (most : ℕ) → AreBeginningBelow plant subject f most
-    → sum_by f (families.beginning plant subject) ≤ length plant.blocks.blocks * (2 * most)
-beginning-total plant subject f most small =
-    over_kept f (families.beginning_at plant subject) _ (length plant.blocks.blocks) (2 * most)
+pub beginning-total : (plant : PlantData) (task : ℕ) (f : Row → ℕ) (most : ℕ) → AreBeginningBelow plant task f most
+    → sum_by f (families.beginning plant task) ≤ length plant.blocks.blocks * (2 * most)
+beginning-total plant task f most small =
+    over_kept f (families.beginning_at plant task) _ (length plant.blocks.blocks) (2 * most)
     (λ number. at number (slice_get plant.blocks.blocks number))
   where
-    at : (number : ℕ) (block : Option Block) → sum_by f (option_map_or (families.beginning_rows plant subject number) block []) ≤ 2 * most
+    at : (number : ℕ) (block : Option Block) → sum_by f (option_map_or (families.beginning_rows plant task number) block []) ≤ 2 * most
     at number None = omega arith
     at number (Some block) =
-        two_rows f (families.begins_by_move plant number block.begin) (families.begins_into plant subject number (context_at plant.system block.begin.owner)) most
+        two_rows f (families.begins_by_move plant number block.begin) (families.begins_into plant task number (context_at plant.system block.begin.owner)) most
         (small.by_move number block.begin) (small.into number (context_at plant.system block.begin.owner))

@@ -6,6 +6,7 @@ use Rattle.std.proofs.lemmas.Bool.{cond_both, ne_eqb}
 use Rattle.std.proofs.lemmas.Int.{ints}
 use Rattle.std.proofs.lemmas.List.Elements.{All-nil, All-cons, All-append, All-map}
 use Rattle.osek_kernel.specs.declared.context.Context.{Context}
+use Rattle.osek_kernel.specs.declared.context.Context.TheVariants as contexts
 use Rattle.osek_kernel.specs.Contexts.{context_at, context_count}
 use Rattle.osek_kernel.specs.Sources.{source_count, source_at, is_one_shot}
 use Rattle.osek_machine.specs.Declarations.{distance_of}
@@ -54,22 +55,22 @@ other_nodes_allow plant node along apart = rw (ne_eqb along.node node apart) (ot
 one_start_allows : (along : Along) → Allows along one_start
 one_start_allows along = omega (arith, ints)
 
-leaving_allows : (plant : PlantData) (subject : Context) (along : Along) (state : AbsState) → Allows along (leaves plant subject state)
-leaving_allows plant subject along state = omega (arith, ints)
+leaving_allows : (plant : PlantData) (task : ℕ) (along : Along) (state : AbsState) → Allows along (leaves plant task state)
+leaving_allows plant task along state = omega (arith, ints)
 
-pub first_rows_allow : (plant : PlantData) (states : List AbsState) (subject : Context) (along : Along) → All (Allows along) (one_start ∷ leaving plant states subject)
-first_rows_allow plant states subject along =
-    All-cons (Allows along) one_start (leaving plant states subject) (one_start_allows along)
-    (All-map_each (Allows along) (leaves plant subject) (filter (λ state. words.is_active_in state subject) states) (leaving_allows plant subject along))
+pub first_rows_allow : (plant : PlantData) (states : List AbsState) (task : ℕ) (along : Along) → All (Allows along) (one_start ∷ leaving plant states task)
+first_rows_allow plant states task along =
+    All-cons (Allows along) one_start (leaving plant states task) (one_start_allows along)
+    (All-map_each (Allows along) (leaves plant task) (filter (λ state. words.is_active_in state (contexts.Task task)) states) (leaving_allows plant task along))
 
-standing_allows : (plant : PlantData) (states : List AbsState) (subject : Context) (along : Along) → All (Allows along) (standing plant states subject)
-standing_allows plant states subject along =
-    All-append (Allows along) (flat_map (standing_at plant subject) nodes) (map (stands_once plant) some)
-    (All-flat_map (Allows along) (standing_at plant subject) nodes (λ node. by_owner node (owner_of plant node)))
+standing_allows : (plant : PlantData) (states : List AbsState) (task : ℕ) (along : Along) → All (Allows along) (standing plant states task)
+standing_allows plant states task along =
+    All-append (Allows along) (flat_map (standing_at plant task) nodes) (map (stands_once plant) some)
+    (All-flat_map (Allows along) (standing_at plant task) nodes (λ node. by_owner node (owner_of plant node)))
     (All-map_each (Allows along) (stands_once plant) some once_allows)
   where
     nodes : List ℕ
-    nodes = positions plant states subject
+    nodes = positions plant states task
 
     some : List Context
     some = filter (λ context. list_any (is_owned plant context) nodes) (map (context_at plant.system) (range_with_len 0 (context_count plant.system)))
@@ -77,20 +78,20 @@ standing_allows plant states subject along =
     once_allows : (context : Context) → Allows along (stands_once plant context)
     once_allows context = omega (arith, ints)
 
-    by_owner : (node : ℕ) (o : Option Context) → All (Allows along) (option_map_or (λ context. standing_rows plant subject context node) o [])
+    by_owner : (node : ℕ) (o : Option Context) → All (Allows along) (option_map_or (λ context. standing_rows plant task context node) o [])
     by_owner node None = All-nil (Allows along)
     by_owner node (Some context) =
-        All-two (Allows along) (stands_by_start plant subject context node) (stands_into plant subject context node)
+        All-two (Allows along) (stands_by_start plant task context node) (stands_into plant task context node)
         (omega (arith, ints)) (omega (arith, ints))
 
-beginning_allows : (plant : PlantData) (subject : Context) (along : Along) → All (Allows along) (beginning plant subject)
-beginning_allows plant subject along =
-    All-flat_map (Allows along) (beginning_at plant subject) (begun_blocks plant subject) (λ number. by_block number (slice_get plant.blocks.blocks number))
+beginning_allows : (plant : PlantData) (task : ℕ) (along : Along) → All (Allows along) (beginning plant task)
+beginning_allows plant task along =
+    All-flat_map (Allows along) (beginning_at plant task) (begun_blocks plant task) (λ number. by_block number (slice_get plant.blocks.blocks number))
   where
-    by_block : (number : ℕ) (o : Option Block) → All (Allows along) (option_map_or (beginning_rows plant subject number) o [])
+    by_block : (number : ℕ) (o : Option Block) → All (Allows along) (option_map_or (beginning_rows plant task number) o [])
     by_block number None = All-nil (Allows along)
     by_block number (Some block) =
-        All-two (Allows along) (begins_by_move plant number block.begin) (begins_into plant subject number (context_at plant.system block.begin.owner))
+        All-two (Allows along) (begins_by_move plant number block.begin) (begins_into plant task number (context_at plant.system block.begin.owner))
         (omega (arith, ints)) (omega (arith, ints))
 
 round_factor : (bound : ℕ) (enters : Bool) → (pos 0 -ℤ pos bound *ℤ (counted enters +ℤ (pos 0 +ℤ pos 0))) ≤ℤ pos 0
@@ -124,10 +125,10 @@ arriving_allows plant along =
         (λ e. omega (arith, ints))
         (λ e. apart_factor (distance_of plant.system plant.timing (source_at plant.system source)) (words.cost plant (Goes along)))
 
-pub last_rows_allow : (plant : PlantData) (states : List AbsState) (subject : Context) (along : Along) → is_back plant along ≡ false
-    → All (Allows along) (standing plant states subject ++ (beginning plant subject ++ (going_round plant ++ arriving plant)))
-last_rows_allow plant states subject along not_back =
-    All-append (Allows along) (standing plant states subject) (beginning plant subject ++ (going_round plant ++ arriving plant))
-    (standing_allows plant states subject along)
-    (All-append (Allows along) (beginning plant subject) (going_round plant ++ arriving plant) (beginning_allows plant subject along)
+pub last_rows_allow : (plant : PlantData) (states : List AbsState) (task : ℕ) (along : Along) → is_back plant along ≡ false
+    → All (Allows along) (standing plant states task ++ (beginning plant task ++ (going_round plant ++ arriving plant)))
+last_rows_allow plant states task along not_back =
+    All-append (Allows along) (standing plant states task) (beginning plant task ++ (going_round plant ++ arriving plant))
+    (standing_allows plant states task along)
+    (All-append (Allows along) (beginning plant task) (going_round plant ++ arriving plant) (beginning_allows plant task along)
     (All-append (Allows along) (going_round plant) (arriving plant) (going_round_allows plant along not_back) (arriving_allows plant along)))

@@ -6,7 +6,7 @@ use Rattle.std.specs.Option.{option_map_or}
 use Rattle.std.proofs.lemmas.Bool.{cases_eq, eq-eqb, eqb-true, ne_eqb}
 use Rattle.std.proofs.lemmas.List.Elements.{Contains-append_left, Contains-append_right}
 use Rattle.std.proofs.lemmas.Option.{none-some, same_Some, slice_get_within}
-use Rattle.osek_kernel.specs.declared.context.Context.{Context}
+use Rattle.osek_kernel.specs.declared.context.Context.TheVariants as contexts
 use Rattle.flow_graph.specs.declared.edge.Edge.{Edge}
 use Rattle.flow_graph.specs.Graph.{program_of}
 use Rattle.row_squeeze.specs.declared.Link.{Link}
@@ -46,67 +46,67 @@ along_member plant node place edge within instruction at =
     (sym instruction)
     (along_at node 0 place place (edges_at plant.flow node) edge at (omega arith)))
 
-behind : (plant : PlantData) (states : List AbsState) (subject : Context) (column : Column)
-    → Contains (map Goes (alongs plant) ++ (map Begins (begun_blocks plant subject) ++ map Stands (positions plant states subject))) column
-    → Contains (columns plant states subject) column
-behind plant states subject column has =
-    Contains-append_right (map Starts (starts plant states subject)) (map Moves active ++ rest) column (Contains-append_right (map Moves active) rest column has)
+behind : (plant : PlantData) (states : List AbsState) (task : ℕ) (column : Column)
+    → Contains (map Goes (alongs plant) ++ (map Begins (begun_blocks plant task) ++ map Stands (positions plant states task))) column
+    → Contains (columns plant states task) column
+behind plant states task column has =
+    Contains-append_right (map Starts (starts plant states task)) (map Moves active ++ rest) column (Contains-append_right (map Moves active) rest column has)
   where
     active : List Going
-    active = filter (λ going. is_active_in going.from subject) (goings plant states)
+    active = filter (λ going. is_active_in going.from (contexts.Task task)) (goings plant states)
 
     rest : List Column
-    rest = map Goes (alongs plant) ++ (map Begins (begun_blocks plant subject) ++ map Stands (positions plant states subject))
+    rest = map Goes (alongs plant) ++ (map Begins (begun_blocks plant task) ++ map Stands (positions plant states task))
 
-goes_member : (plant : PlantData) (states : List AbsState) (subject : Context) (along : Along) → Contains (alongs plant) along
-    → Contains (columns plant states subject) (Goes along)
-goes_member plant states subject along has = behind plant states subject (Goes along)
-    (Contains-append_left (map Goes (alongs plant)) (map Begins (begun_blocks plant subject) ++ map Stands (positions plant states subject)) (Goes along)
+goes_member : (plant : PlantData) (states : List AbsState) (task : ℕ) (along : Along) → Contains (alongs plant) along
+    → Contains (columns plant states task) (Goes along)
+goes_member plant states task along has = behind plant states task (Goes along)
+    (Contains-append_left (map Goes (alongs plant)) (map Begins (begun_blocks plant task) ++ map Stands (positions plant states task)) (Goes along)
     (mapped_member Goes (alongs plant) along has))
 
-begins_member : (plant : PlantData) (states : List AbsState) (subject : Context) (block : ℕ) → block < length plant.blocks.blocks
-    → is_own_entry plant subject block ≡ false → Contains (columns plant states subject) (Begins block)
-begins_member plant states subject block within other =
-    behind plant states subject (Begins block)
-    (Contains-append_right (map Goes (alongs plant)) (map Begins (begun_blocks plant subject) ++ map Stands (positions plant states subject)) (Begins block)
-    (Contains-append_left (map Begins (begun_blocks plant subject)) (map Stands (positions plant states subject)) (Begins block)
-    (mapped_member Begins (begun_blocks plant subject) block
-    (kept_member (λ b. not (is_own_entry plant subject b)) (range_with_len 0 (length plant.blocks.blocks)) block (ap not other)
+begins_member : (plant : PlantData) (states : List AbsState) (task block : ℕ) → block < length plant.blocks.blocks
+    → is_own_entry plant task block ≡ false → Contains (columns plant states task) (Begins block)
+begins_member plant states task block within other =
+    behind plant states task (Begins block)
+    (Contains-append_right (map Goes (alongs plant)) (map Begins (begun_blocks plant task) ++ map Stands (positions plant states task)) (Begins block)
+    (Contains-append_left (map Begins (begun_blocks plant task)) (map Stands (positions plant states task)) (Begins block)
+    (mapped_member Begins (begun_blocks plant task) block
+    (kept_member (λ b. not (is_own_entry plant task b)) (range_with_len 0 (length plant.blocks.blocks)) block (ap not other)
     (range_member (length plant.blocks.blocks) block within)))))
 
 -- ---- The link of a node
 
 -- the node isn't the first one of the task's entry, and its row is the link
-pub record IsLinkAt (plant : PlantData) (states : List AbsState) (subject : Context) (node : ℕ) (link : Link) : Type 0 where
-  pub of : IsLinkOf plant (passes plant node).factor (columns plant states subject) link
-  pub not_first : is_first_of plant subject node ≡ false
+pub record IsLinkAt (plant : PlantData) (states : List AbsState) (task node : ℕ) (link : Link) : Type 0 where
+  pub of : IsLinkOf plant (passes plant node).factor (columns plant states task) link
+  pub not_first : is_first_of plant task node ≡ false
 
-pub link_at_is : (plant : PlantData) (states : List AbsState) (subject : Context) (node : ℕ) (link : Link) → link_at plant subject (columns plant states subject) node ≡ Some link
-    → IsLinkAt plant states subject node link
-link_at_is plant states subject node link is = by (is_first_of plant subject node) refl is
+pub link_at_is : (plant : PlantData) (states : List AbsState) (task node : ℕ) (link : Link) → link_at plant task (columns plant states task) node ≡ Some link
+    → IsLinkAt plant states task node link
+link_at_is plant states task node link is = by (is_first_of plant task node) refl is
   where
     entries : Option Link
-    entries = link_of_entries plant (entries_from (passes plant node).factor 0 (columns plant states subject))
+    entries = link_of_entries plant (entries_from (passes plant node).factor 0 (columns plant states task))
 
-    by : (b : Bool) → is_first_of plant subject node ≡ b → cond b None entries ≡ Some link → IsLinkAt plant states subject node link
+    by : (b : Bool) → is_first_of plant task node ≡ b → cond b None entries ≡ Some link → IsLinkAt plant states task node link
     by true first e = absurd (none-some link e)
-    by false first e = record { of = link_is plant (passes plant node).factor (columns plant states subject) link e; not_first = first }
+    by false first e = record { of = link_is plant (passes plant node).factor (columns plant states task) link e; not_first = first }
 
 -- a column with the factor -1 is the incoming one
-only_incoming : (plant : PlantData) (states : List AbsState) (subject : Context) (node : ℕ) (link : Link) (column : Column) → IsLinkAt plant states subject node link
-    → Contains (columns plant states subject) column → (passes plant node).factor column ≡ negsuc 0
-    → slice_get (columns plant states subject) link.incoming ≡ Some column
-only_incoming plant states subject node link column is has factor =
-    let there = place_of_member (columns plant states subject) column has in
+only_incoming : (plant : PlantData) (states : List AbsState) (task node : ℕ) (link : Link) (column : Column) → IsLinkAt plant states task node link
+    → Contains (columns plant states task) column → (passes plant node).factor column ≡ negsuc 0
+    → slice_get (columns plant states task) link.incoming ≡ Some column
+only_incoming plant states task node link column is has factor =
+    let there = place_of_member (columns plant states task) column has in
     elim (cases_eq there.0 link.incoming) [
-      | inl same ↦ ap (slice_get (columns plant states subject)) (sym same) ∙ there.1
+      | inl same ↦ ap (slice_get (columns plant states task)) (sym same) ∙ there.1
       | inr other ↦ absurd (let wrong : pos 0 ≡ negsuc 0 = sym (is.of.others there.0 column there.1 (not_outgoing there.0 there.1) other) ∙ factor in cc)
     ]
   where
-    not_outgoing : (k : ℕ) → slice_get (columns plant states subject) k ≡ Some column → k ≢ link.outgoing
+    not_outgoing : (k : ℕ) → slice_get (columns plant states task) k ≡ Some column → k ≢ link.outgoing
     not_outgoing k at same =
         let goes : Goes is.of.outgoing ≡ column =
-        same_Some (Goes is.of.outgoing) column (sym is.of.outgoing_stands ∙ ap (slice_get (columns plant states subject)) (sym same) ∙ at) in
+        same_Some (Goes is.of.outgoing) column (sym is.of.outgoing_stands ∙ ap (slice_get (columns plant states task)) (sym same) ∙ at) in
         let wrong : pos 1 ≡ negsuc 0 = sym is.of.outgoing_factor ∙ ap (passes plant node).factor goes ∙ factor in cc
 
 -- ---- No block begins there
@@ -120,10 +120,10 @@ own_first plant node number block (Some own) at first is =
     ap (λ n. option_map_or (λ (b : Block). b.begin.first == node) (slice_get plant.blocks.blocks n) false) (sym same)
     ∙ ap (λ o. option_map_or (λ (b : Block). b.begin.first == node) o false) at ∙ eq-eqb block.begin.first node first
 
-pub no_block_begins : (plant : PlantData) (states : List AbsState) (subject : Context) (node : ℕ) (link : Link) (number : ℕ) (block : Block)
-    → IsLinkAt plant states subject node link
+pub no_block_begins : (plant : PlantData) (states : List AbsState) (task node : ℕ) (link : Link) (number : ℕ) (block : Block)
+    → IsLinkAt plant states task node link
     → slice_get plant.blocks.blocks number ≡ Some block → block.begin.first ≡ node → ⊥
-no_block_begins plant states subject node link number block is at first = by (is_own_entry plant subject number) refl
+no_block_begins plant states task node link number block is at first = by (is_own_entry plant task number) refl
   where
     begins_there : is_first_at plant node number ≡ true
     begins_there = ap (λ o. option_map_or (λ (b : Block). b.begin.first == node) o false) at ∙ eq-eqb block.begin.first node first
@@ -131,12 +131,12 @@ no_block_begins plant states subject node link number block is at first = by (is
     factor : (passes plant node).factor (Begins number) ≡ negsuc 0
     factor = ap (λ b. (pos 0 +ℤ pos 0) -ℤ (pos 0 +ℤ (counted b +ℤ pos 0))) begins_there
 
-    by : (b : Bool) → is_own_entry plant subject number ≡ b → ⊥
+    by : (b : Bool) → is_own_entry plant task number ≡ b → ⊥
     by true own =
-        let wrong : true ≡ false = sym (own_first plant node number block (entry_block plant subject) at first own) ∙ is.not_first in cc
+        let wrong : true ≡ false = sym (own_first plant node number block (entry_block plant (contexts.Task task)) at first own) ∙ is.not_first in cc
     by false other =
         let within = slice_get_within plant.blocks.blocks number block at in
-        let here = only_incoming plant states subject node link (Begins number) is (begins_member plant states subject number within other) factor in
+        let here = only_incoming plant states task node link (Begins number) is (begins_member plant states task number within other) factor in
         let wrong : Some (Goes is.of.incoming) ≡ Some (Begins number) = sym is.of.incoming_stands ∙ here in cc
 
 -- ---- Just one edge leads to it from another node
@@ -149,10 +149,10 @@ origin column = 0
 abbrev pub origin_at : List Column → ℕ → ℕ
 origin_at columns place = option_map_or origin (slice_get columns place) 0
 
-pub comes_from : (plant : PlantData) (states : List AbsState) (subject : Context) (node : ℕ) (link : Link) (other : ℕ) → IsPlant plant → IsLinkAt plant states subject node link
+pub comes_from : (plant : PlantData) (states : List AbsState) (task node : ℕ) (link : Link) (other : ℕ) → IsPlant plant → IsLinkAt plant states task node link
     → other ≢ node → is_service plant.flow other ≡ false → HasEdge plant.flow other node
-    → origin_at (columns plant states subject) link.incoming ≡ other
-comes_from plant states subject node link other plants is apart instruction edge =
+    → origin_at (columns plant states task) link.incoming ≡ other
+comes_from plant states task node link other plants is apart instruction edge =
     let between = edge_between (program_of plant.image plant.system plant.timing) plant.flow other node plants.graph.graph edge in
     let within = slice_get_within plant.flow.nodes other between.node between.stands in
     let along : Along = record { node = other; place = edge.number; edge = edge.edge } in
@@ -160,5 +160,5 @@ comes_from plant states subject node link other plants is apart instruction edge
     let factor : (passes plant node).factor (Goes along) ≡ negsuc 0 =
     ap (λ b. edge_factor b (leads_to node along)) (ne_eqb other node apart) ∙ ap (edge_factor false) leads in
     ap (λ o. option_map_or origin o 0)
-    (only_incoming plant states subject node link (Goes along) is
-    (goes_member plant states subject along (along_member plant other edge.number edge.edge within instruction edge.leaves)) factor)
+    (only_incoming plant states task node link (Goes along) is
+    (goes_member plant states task along (along_member plant other edge.number edge.edge within instruction edge.leaves)) factor)

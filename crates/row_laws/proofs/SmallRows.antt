@@ -6,7 +6,6 @@ use Rattle.std.proofs.lemmas.List.{get_or-map, length-map}
 use Rattle.std.proofs.lemmas.List.Elements.{All-map}
 use Rattle.std.proofs.lemmas.List.Sums.{sum_by-append, sum_by-cons, sum_by-le-sum_by}
 use Rattle.listed.specs.Lists.{differ}
-use Rattle.osek_kernel.specs.declared.context.Context.{Context}
 use Rattle.osek_kernel.specs.Contexts.{context_count}
 use Rattle.osek_kernel.specs.Sources.{source_count}
 use Rattle.flow_graph.specs.declared.node.Node.{Node}
@@ -54,56 +53,56 @@ shallow plant is number node there =
 
 -- ---- All families
 
-all_families : (plant : PlantData) (states : List AbsState) (subject : Context) (f : Row → ℕ)
-    → sum_by f (families.rows plant states subject)
-    ≡ (f families.one_start + sum_by f (families.leaving plant states subject))
+all_families : (plant : PlantData) (states : List AbsState) (task : ℕ) (f : Row → ℕ)
+    → sum_by f (families.rows plant states task)
+    ≡ (f families.one_start + sum_by f (families.leaving plant states task))
     + (sum_by f (families.passing plant)
-    + (sum_by f (families.standing plant states subject)
-    + (sum_by f (families.beginning plant subject)
+    + (sum_by f (families.standing plant states task)
+    + (sum_by f (families.beginning plant task)
     + (sum_by f (families.going_round plant) + sum_by f (families.arriving plant)))))
-all_families plant states subject f =
+all_families plant states task f =
     let last = families.going_round plant ++ families.arriving plant in
-    let fifth = families.beginning plant subject ++ last in
-    let fourth = families.standing plant states subject ++ fifth in
+    let fifth = families.beginning plant task ++ last in
+    let fourth = families.standing plant states task ++ fifth in
     let third = families.passing plant ++ fourth in
-    let a = sum_by-append f (families.one_start ∷ families.leaving plant states subject) third in
-    let b = sum_by-cons f families.one_start (families.leaving plant states subject) in
+    let a = sum_by-append f (families.one_start ∷ families.leaving plant states task) third in
+    let b = sum_by-cons f families.one_start (families.leaving plant states task) in
     let c = sum_by-append f (families.passing plant) fourth in
-    let d = sum_by-append f (families.standing plant states subject) fifth in
-    let e = sum_by-append f (families.beginning plant subject) last in
+    let d = sum_by-append f (families.standing plant states task) fifth in
+    let e = sum_by-append f (families.beginning plant task) last in
     let g = sum_by-append f (families.going_round plant) (families.arriving plant) in
     omega arith
 
-column-total : (plant : PlantData) (states : List AbsState) (subject : Context) (column : Column) → IsPlant plant → differ same_state states ≡ true
-    → sum_by (size_at column) (families.rows plant states subject) < 2 ^ 40
-column-total plant states subject column is apart =
+column-total : (plant : PlantData) (states : List AbsState) (task : ℕ) (column : Column) → IsPlant plant → differ same_state states ≡ true
+    → sum_by (size_at column) (families.rows plant states task) < 2 ^ 40
+column-total plant states task column is apart =
     let f = size_at column in
-    let all = all_families plant states subject f in
+    let all = all_families plant states task f in
     let nodes = few_nodes plant is in
     let blocks = few_blocks plant is in
     let contexts = few_contexts plant is in
     let sources = few_sources plant is in
     let first : f families.one_start ≤ 1 = starts-size (λ start. true) column in
-    let second = leaving-size plant states subject column apart in
+    let second = leaving-size plant states task column apart in
     let third = passing-total plant f 5 (passes-size plant column) in
-    let fourth = standing-total plant states subject f 5
-    (record { by_start = by_start-size plant subject column; into = into_node-size plant subject column; once = stands_once-size plant column }) in
-    let fifth = beginning-total plant subject f 5 (record { by_move = by_move-size plant column; into = into_block-size plant subject column }) in
+    let fourth = standing-total plant states task f 5
+    (record { by_start = by_start-size plant task column; into = into_node-size plant task column; once = stands_once-size plant column }) in
+    let fifth = beginning-total plant task f 5 (record { by_move = by_move-size plant column; into = into_block-size plant task column }) in
     let sixth = round-total plant column is.timing.loops (shallow plant is) in
     let seventh = arriving-total plant f (2 ^ 33) (λ source live. arrives-size plant column source is live) in
     omega arith
 
-right-total : (plant : PlantData) (states : List AbsState) (subject : Context) → IsPlant plant
-    → sum_by (λ (row : Row). row.right) (families.rows plant states subject) < 2 ^ 40
-right-total plant states subject is =
+right-total : (plant : PlantData) (states : List AbsState) (task : ℕ) → IsPlant plant
+    → sum_by (λ (row : Row). row.right) (families.rows plant states task) < 2 ^ 40
+right-total plant states task is =
     let f = (λ (row : Row). row.right) in
-    let all = all_families plant states subject f in
+    let all = all_families plant states task f in
     let sources = few_sources plant is in
     let zero : 0 ≤ 0 = omega arith in
-    let second = leaving-total plant states subject f (λ state. zero) in
+    let second = leaving-total plant states task f (λ state. zero) in
     let third = passing-total plant f 0 (λ node. zero) in
-    let fourth = standing-total plant states subject f 0 (record { by_start = λ context node. zero; into = λ context node. zero; once = λ context. zero }) in
-    let fifth = beginning-total plant subject f 0 (record { by_move = λ number begin. zero; into = λ number context. zero }) in
+    let fourth = standing-total plant states task f 0 (record { by_start = λ context node. zero; into = λ context node. zero; once = λ context. zero }) in
+    let fifth = beginning-total plant task f 0 (record { by_move = λ number begin. zero; into = λ number context. zero }) in
     let sixth = round-right plant in
     let seventh = arriving-total plant f (2 ^ 33) (λ source live. arrives-right plant source is live) in
     omega arith
@@ -125,21 +124,21 @@ column-size all rows column d within =
     at row = let same = ap unsigned_abs (get_or-map row.factor all column d (pos 0) within) in omega arith
 
 pub rows_are_small : RowsAreSmall
-rows_are_small plant states subject is apart = record {
+rows_are_small plant states task is apart = record {
   columns = λ column within.
-      let all = columns plant states subject in
+      let all = columns plant states task in
       let count = length-map all (λ (c : Column). pos (cost plant c)) in
-      let size = column-size all (families.rows plant states subject) column (Stands 0) (omega arith) in
-      let most = column-total plant states subject (get_or all column (Stands 0)) is apart in
+      let size = column-size all (families.rows plant states task) column (Stands 0) (omega arith) in
+      let most = column-total plant states task (get_or all column (Stands 0)) is apart in
       omega arith;
   rights =
-      let same = sum-map unsigned_abs (λ (row : Row). pos row.right) (families.rows plant states subject) in
-      let most = right-total plant states subject is in
+      let same = sum-map unsigned_abs (λ (row : Row). pos row.right) (families.rows plant states task) in
+      let most = right-total plant states task is in
       omega arith;
-  costs_not_negative = All-map (λ (price : ℤ). pos 0 ≤ℤ price) (λ c. pos (cost plant c)) (columns plant states subject)
-      (λ k d within. not_negative (cost plant (get_or (columns plant states subject) k d)));
-  costs_small = All-map (λ (price : ℤ). unsigned_abs price ≤ 2 ^ 29) (λ c. pos (cost plant c)) (columns plant states subject)
-      (λ k d within. cost-small plant (get_or (columns plant states subject) k d) is.timing);
+  costs_not_negative = All-map (λ (price : ℤ). pos 0 ≤ℤ price) (λ c. pos (cost plant c)) (columns plant states task)
+      (λ k d within. not_negative (cost plant (get_or (columns plant states task) k d)));
+  costs_small = All-map (λ (price : ℤ). unsigned_abs price ≤ 2 ^ 29) (λ c. pos (cost plant c)) (columns plant states task)
+      (λ k d within. cost-small plant (get_or (columns plant states task) k d) is.timing);
 }
   where
     not_negative : (n : ℕ) → pos 0 ≤ℤ pos n

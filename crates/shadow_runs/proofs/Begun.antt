@@ -49,8 +49,7 @@ is_isr : (i : ℕ) (isr : Option ℕ) → (option_map_or (nat_eq i) isr false �
 is_isr i None = (λ e. absurd cc, λ e. absurd cc)
 is_isr i (Some j) = (λ e. ap Some (sym (eqb-true i j e)), λ e. eq-eqb i j (let same : j ≡ i = cc in sym same))
 
--- that a context is active, as a test
-pub active_test : (kernel : Kernel) (c : Context) → (is_active kernel c ≡ true) ↔ IsActive kernel c
+active_test : (kernel : Kernel) (c : Context) → (is_active kernel c ≡ true) ↔ IsActive kernel c
 active_test kernel (contexts.Task t) = (λ e. e, λ e. e)
 active_test kernel (contexts.Isr i) = is_isr i kernel.isr
 

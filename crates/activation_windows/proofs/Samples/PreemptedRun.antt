@@ -279,7 +279,7 @@ declared = record {
 
 -- ---- All that is asked of a plant, its states and a run
 
-pub case_of_t : IsDeclaredCase plant states (contexts.Task 0) 0 t_ended (state 75 55 (None ∷ None ∷ []) (false ∷ []) ended)
+pub case_of_t : IsDeclaredCase plant states 0 0 t_ended (state 75 55 (None ∷ None ∷ []) (false ∷ []) ended)
 case_of_t = record {
   of = record { belongs = is_plant; closed = closed; run = t_made; pairs = returns };
   declared = declared;
@@ -292,7 +292,7 @@ task_t = record { belongs = is_plant; closed = closed; once = once; exists = lit
 
 -- ---- What T's activation uses in this run
 
-pub uses_of_t_are : IsUsed plant (contexts.Task 0) 0 t_ended (columns_at plant states 0 uses_of_t) 0
+pub uses_of_t_are : IsUsed plant 0 0 t_ended (columns_at plant states 0 uses_of_t) 0
 unfolding insn_at insn_of_word insn_under imm_of
 uses_of_t_are =
     closed_now (calls t (stands 0x10c asks)) (executes t (stands 0x108 sevens) (stands 0x10c asks) ∷ h_ended)

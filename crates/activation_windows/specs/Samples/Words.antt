@@ -18,7 +18,6 @@ use Rattle.std.specs.List.{list_all}
 use Rattle.rv32_machine.specs.ContextStep.{Standing}
 use Rattle.rv32_machine.specs.Registers.{zeros, with_value}
 use Rattle.osek_kernel.specs.declared.context.Context.{Context}
-use Rattle.osek_kernel.specs.declared.context.Context.TheVariants as contexts
 use Rattle.osek_kernel.specs.declared.kernel.Reply.{Reply}
 use Rattle.osek_kernel.specs.declared.service.Code.TheVariants.{Done}
 use Rattle.osek_kernel.specs.declared.service.Service.{Service}
@@ -149,20 +148,20 @@ rows_over columns terms = map (row_of_terms columns) terms
 
 -- the columns of these places
 abbrev pub columns_at : PlantData → List AbsState → ℕ → List ℕ → List Column
-columns_at plant states task places = filter_map (slice_get (columns plant states (contexts.Task task))) places
+columns_at plant states task places = filter_map (slice_get (columns plant states task)) places
 
 -- the uses meet every row
 abbrev pub meets_all : PlantData → List AbsState → ℕ → List Column → Bool
-meets_all plant states task uses = list_all (λ row. int_le (left_side row.factor uses) (pos row.right)) (rows plant states (contexts.Task task))
+meets_all plant states task uses = list_all (λ row. int_le (left_side row.factor uses) (pos row.right)) (rows plant states task)
 
 -- what the activation used that the newest of the steps ended
 abbrev pub used : PlantData → ℕ → ℕ → List Event → Option (List Column)
 used plant task mode [] = None
-used plant task mode (event ∷ earlier) = closed_uses plant (contexts.Task task) mode event earlier
+used plant task mode (event ∷ earlier) = closed_uses plant task mode event earlier
 
 -- what the activation has used that goes on after the steps
 abbrev pub used_so_far : PlantData → ℕ → ℕ → List Event → Option (List Column)
-used_so_far plant task mode events = option_map (λ window. window.uses) (open_window plant (contexts.Task task) mode events)
+used_so_far plant task mode events = option_map (λ window. window.uses) (open_window plant task mode events)
 
 -- ---- What the code of a plant says of its flow
 

@@ -21,17 +21,17 @@ abbrev pub instance_at : List LoopInstance → ℕ → LoopInstance
 instance_at instances number = slice_index_or instances number no_instance
 
 abbrev pub row_of : PlantData → List AbsState → List LoopInstance → ℕ → RowKind → Row
-row_of plant states instances subject kinds.OneStart = one_start
-row_of plant states instances subject (kinds.Leaves state) = leaves plant subject (state_at states state)
-row_of plant states instances subject (kinds.Passes node) = passes plant node
-row_of plant states instances subject (kinds.StandsByStart place node) = stands_by_start plant subject (context_at plant.system place) node
-row_of plant states instances subject (kinds.StandsInto place node) = stands_into plant subject (context_at plant.system place) node
-row_of plant states instances subject (kinds.StandsOnce place) = stands_once plant (context_at plant.system place)
-row_of plant states instances subject (kinds.BeginsByMove block owner after) = begins_by_move plant block (record { owner = owner; after = after; first = 0 })
-row_of plant states instances subject (kinds.BeginsInto block owner) = begins_into plant subject block (context_at plant.system owner)
-row_of plant states instances subject (kinds.GoesRound instance) = goes_round plant (instance_at instances instance)
-row_of plant states instances subject (kinds.ArrivesApart source) = arrives_apart plant source
-row_of plant states instances subject (kinds.ArrivesOnce source) = arrives_once source
+row_of plant states instances task kinds.OneStart = one_start
+row_of plant states instances task (kinds.Leaves state) = leaves plant task (state_at states state)
+row_of plant states instances task (kinds.Passes node) = passes plant node
+row_of plant states instances task (kinds.StandsByStart place node) = stands_by_start plant task (context_at plant.system place) node
+row_of plant states instances task (kinds.StandsInto place node) = stands_into plant task (context_at plant.system place) node
+row_of plant states instances task (kinds.StandsOnce place) = stands_once plant (context_at plant.system place)
+row_of plant states instances task (kinds.BeginsByMove block owner after) = begins_by_move plant block (record { owner = owner; after = after; first = 0 })
+row_of plant states instances task (kinds.BeginsInto block owner) = begins_into plant task block (context_at plant.system owner)
+row_of plant states instances task (kinds.GoesRound instance) = goes_round plant (instance_at instances instance)
+row_of plant states instances task (kinds.ArrivesApart source) = arrives_apart plant source
+row_of plant states instances task (kinds.ArrivesOnce source) = arrives_once source
 
 -- states and nodes exist
 abbrev pub IsKind : PlantData → List AbsState → List LoopInstance → RowKind → Type 0
@@ -44,9 +44,9 @@ IsKind plant states instances kind = Unit {0}
 -- ---- Tests of states
 
 abbrev pub test_of : PlantData → List AbsState → ℕ → StateTest → AbsState → Bool
-test_of plant states subject (tests.Is state) = same_state (state_at states state)
-test_of plant states subject (tests.RunsAt place node) = runs_at plant subject (context_at plant.system place) node
-test_of plant states subject (tests.RunsIn place block) = runs_in_block plant subject (context_at plant.system place) block
+test_of plant states task (tests.Is state) = same_state (state_at states state)
+test_of plant states task (tests.RunsAt place node) = runs_at plant task (context_at plant.system place) node
+test_of plant states task (tests.RunsIn place block) = runs_in_block plant task (context_at plant.system place) block
 
 -- what the test names exists
 abbrev pub IsTest : PlantData → List AbsState → StateTest → Type 0

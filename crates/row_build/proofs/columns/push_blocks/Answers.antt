@@ -9,7 +9,7 @@ use Rattle.row_build.proofs.columns.push_blocks.Goals as goal
 pub loop-block-preserved : goal.loop-block-preserved
 loop-block-preserved c =
     let plant = c.args.plant.now in let states = c.args.states.now in let n = c.loop-block.block in
-    let test : ℕ → Bool = λ block. not (words.is_own_entry plant c.args.subject block) in
+    let test : ℕ → Bool = λ block. not (words.is_own_entry plant c.args.task block) in
     adds_like (column_of states) (IsColumn plant states) c.args.found.now c.push_block.new.found
     (map words.Begins (filter test (range_with_len 0 n)) ++ map words.Begins (cond (test n) (n ∷ []) [])) (map words.Begins (filter test (range_with_len 0 (n + 1))))
     (sym (numbers_more words.Begins test n))

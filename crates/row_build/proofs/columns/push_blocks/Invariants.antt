@@ -9,4 +9,4 @@ use Rattle.row_build.proofs.columns.push_blocks.Given as goal
 abbrev pub invariant-loop-block : goal.invariant-loop-block
 invariant-loop-block l =
     Adds (column_of l.states) (IsColumn l.plant l.states) l.fn.found l.found
-    (map words.Begins (filter (λ block. not (words.is_own_entry l.plant l.subject block)) (range_with_len 0 l.block)))
+    (map words.Begins (filter (λ block. not (words.is_own_entry l.plant l.task block)) (range_with_len 0 l.block)))

@@ -7,5 +7,5 @@ use Rattle.row_build.proofs.families.push_passing.Given as goal
 
 abbrev pub invariant-loop-node : goal.invariant-loop-node
 invariant-loop-node l =
-    Adds (row_of l.plant l.states l.instances l.subject) (IsKind l.plant l.states l.instances) l.fn.kinds l.kinds
+    Adds (row_of l.plant l.states l.instances l.task) (IsKind l.plant l.states l.instances) l.fn.kinds l.kinds
     (map (words.passes l.plant) (range_with_len 0 l.node))

@@ -8,5 +8,5 @@ use Rattle.row_build.proofs.positions.any_stands.Goals as goal
 
 pub returns-then-may_stand : goal.returns-then-may_stand
 returns-then-may_stand c =
-    found_in_map (may_stand c.args.plant.now c.args.subject c.args.node (context_at c.args.plant.now.system c.args.place)) (start_of c.args.states.now)
+    found_in_map (may_stand c.args.plant.now c.args.task c.args.node (context_at c.args.plant.now.system c.args.place)) (start_of c.args.states.now)
     c.args.starts.now c.loop-number.number (In 0 0) c.loop-number-test.true (sym c.may_stand.ensures ∙ c.if-may_stand.true)

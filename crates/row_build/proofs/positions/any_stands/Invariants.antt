@@ -7,4 +7,4 @@ use Rattle.row_build.proofs.positions.any_stands.Given as goal
 
 abbrev pub invariant-loop-number : goal.invariant-loop-number
 invariant-loop-number l =
-    list_any (may_stand l.plant l.subject l.node (context_at l.plant.system l.place)) (map (start_of l.states) (take l.number l.starts)) ≡ false
+    list_any (may_stand l.plant l.task l.node (context_at l.plant.system l.place)) (map (start_of l.states) (take l.number l.starts)) ≡ false

@@ -8,7 +8,7 @@ use Rattle.row_build.proofs.positions.positions.Goals.{then-is_position+in_ok-pu
 pub loop-node-preserved : goal.loop-node-preserved
 loop-node-preserved c =
     let plant = c.args.plant.now in let n = c.loop-node.node in
-    let test : ℕ → Bool = is_position plant (map (start_of c.args.states.now) c.args.starts.now) c.args.subject in
+    let test : ℕ → Bool = is_position plant (map (start_of c.args.states.now) c.args.starts.now) c.args.task in
     let within : n < length plant.flow.nodes = search rules in
     elim c.if-is_position.branch [
       | then-is_position+in_ok-push w ↦

@@ -7,4 +7,4 @@ use Rattle.row_build.proofs.positions.positions.Given as goal
 
 abbrev pub invariant-loop-node : goal.invariant-loop-node
 invariant-loop-node l =
-    ArePositions l.plant l.nodes (filter (is_position l.plant (map (start_of l.states) l.starts) l.subject) (range_with_len 0 l.node))
+    ArePositions l.plant l.nodes (filter (is_position l.plant (map (start_of l.states) l.starts) l.task) (range_with_len 0 l.node))

@@ -1,5 +1,6 @@
 use Rattle.std.proofs.Common.{◌≡◌, ◌∙◌, [], ◌∷◌, map, ap, sym, refl, Bool, cond}
 use Rattle.abstract_sched.specs.declared.states.AbsState.{AbsState}
+use Rattle.osek_kernel.specs.declared.context.Context.TheVariants as contexts
 use Rattle.scheduler_moves.specs.Moves as moves
 use Rattle.row_build.specs.Columns as words
 use Rattle.row_build.specs.declared.numbered.NumberedStart.TheVariants as numbered
@@ -15,7 +16,7 @@ number_of-after-requires-clause-listed c = rw c.in_ok-state.ensures (c.requires.
 pub returns : goal.returns
 returns c =
     let plant = c.args.plant.now in let states = c.args.states.now in let mode = c.args.mode in let before = c.args.found.now in
-    let active : AbsState → Bool = λ state. words.is_active_in state c.args.subject in
+    let active : AbsState → Bool = λ state. words.is_active_in state (contexts.Task c.args.task) in
     let test : c.is_active_in.result ≡ active (moves.initial plant mode) = c.is_active_in.ensures ∙ ap active c.in_ok-state.ensures in
     elim c.if-is_active_in.branch [
       | then-is_active_in+in_ok-push w ↦

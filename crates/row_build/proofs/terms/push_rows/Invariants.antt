@@ -6,4 +6,4 @@ use Rattle.row_build.proofs.terms.push_rows.Given as goal
 
 abbrev pub invariant-loop-number : goal.invariant-loop-number
 invariant-loop-number l =
-    l.rows ≡ with_rows (map (column_of l.states) l.columns) l.fn.rows (map (row_of l.plant l.states l.instances l.subject) (take l.number l.kinds))
+    l.rows ≡ with_rows (map (column_of l.states) l.columns) l.fn.rows (map (row_of l.plant l.states l.instances l.task) (take l.number l.kinds))

@@ -15,7 +15,7 @@ use Rattle.row_build.proofs.terms.terms.Goals as goal
 pub loop-column-preserved : goal.loop-column-preserved
 loop-column-preserved c =
     let states = c.args.states.now in let columns = c.args.columns.now in let i = c.loop-column.column in let d = numbered.Starts (starts.In 0 0) in
-    let f : Column → ℤ = (row_of c.args.plant.now states c.args.instances.now c.args.subject c.args.kind).factor in
+    let f : Column → ℤ = (row_of c.args.plant.now states c.args.instances.now c.args.task c.args.kind).factor in
     let gives : c.entry.result ≡ f (column_of states (get_or columns i d)) = c.entry.ensures.value ∙ c.factor-found.ensures in
     let fits : SFits w128 c.entry.result = search rules in
     let pushed = simp to_z-of_z at c.in_ok-push_entry.ensures in

@@ -7,5 +7,5 @@ use Rattle.row_build.proofs.terms.terms.Given as goal
 
 abbrev pub invariant-loop-column : goal.invariant-loop-column
 invariant-loop-column l =
-    let entries = entries_of (row_of l.plant l.states l.instances l.subject l.kind) (map (column_of l.states) (take l.column l.columns)) in
+    let entries = entries_of (row_of l.plant l.states l.instances l.task l.kind) (map (column_of l.states) (take l.column l.columns)) in
     (l.terms ≡ terms_from 0 entries) × AreInRange entries

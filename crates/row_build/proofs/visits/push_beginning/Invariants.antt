@@ -9,5 +9,5 @@ use Rattle.row_build.proofs.visits.push_beginning.Given as goal
 
 abbrev pub invariant-loop-block : goal.invariant-loop-block
 invariant-loop-block l =
-    Adds (row_of l.plant l.states l.instances l.subject) (IsKind l.plant l.states l.instances) l.fn.kinds l.kinds
-    (flat_map (words.beginning_at l.plant l.subject) (filter (λ block. not (columns.is_own_entry l.plant l.subject block)) (range_with_len 0 l.block)))
+    Adds (row_of l.plant l.states l.instances l.task) (IsKind l.plant l.states l.instances) l.fn.kinds l.kinds
+    (flat_map (words.beginning_at l.plant l.task) (filter (λ block. not (columns.is_own_entry l.plant l.task block)) (range_with_len 0 l.block)))

@@ -7,9 +7,9 @@ use Rattle.row_build.proofs.visits.push_nodes.Goals as goal
 
 pub loop-number-preserved : goal.loop-number-preserved
 loop-number-preserved c =
-    let plant = c.args.plant.now in let states = c.args.states.now in let instances = c.args.instances.now in let subject = c.args.subject in let n = c.loop-number.number in
-    adds_like (row_of plant states instances subject) (IsKind plant states instances) c.args.kinds.now c.push_node.new.kinds
-    (flat_map (words.standing_at plant subject) (take n c.args.nodes.now) ++ words.standing_at plant subject (get_or c.args.nodes.now n 0)) (flat_map (words.standing_at plant subject) (take (n + 1) c.args.nodes.now))
-    (sym (flat_more (words.standing_at plant subject) c.args.nodes.now n 0 c.loop-number-test.true))
-    (adds_both (row_of plant states instances subject) (IsKind plant states instances) c.args.kinds.now c.loop-number.kinds c.push_node.new.kinds
-    (flat_map (words.standing_at plant subject) (take n c.args.nodes.now)) (words.standing_at plant subject (get_or c.args.nodes.now n 0)) c.loop-number.invariant c.in_ok-push_node.ensures)
+    let plant = c.args.plant.now in let states = c.args.states.now in let instances = c.args.instances.now in let task = c.args.task in let n = c.loop-number.number in
+    adds_like (row_of plant states instances task) (IsKind plant states instances) c.args.kinds.now c.push_node.new.kinds
+    (flat_map (words.standing_at plant task) (take n c.args.nodes.now) ++ words.standing_at plant task (get_or c.args.nodes.now n 0)) (flat_map (words.standing_at plant task) (take (n + 1) c.args.nodes.now))
+    (sym (flat_more (words.standing_at plant task) c.args.nodes.now n 0 c.loop-number-test.true))
+    (adds_both (row_of plant states instances task) (IsKind plant states instances) c.args.kinds.now c.loop-number.kinds c.push_node.new.kinds
+    (flat_map (words.standing_at plant task) (take n c.args.nodes.now)) (words.standing_at plant task (get_or c.args.nodes.now n 0)) c.loop-number.invariant c.in_ok-push_node.ensures)

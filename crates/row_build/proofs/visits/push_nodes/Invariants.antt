@@ -7,5 +7,5 @@ use Rattle.row_build.proofs.visits.push_nodes.Given as goal
 
 abbrev pub invariant-loop-number : goal.invariant-loop-number
 invariant-loop-number l =
-    Adds (row_of l.plant l.states l.instances l.subject) (IsKind l.plant l.states l.instances) l.fn.kinds l.kinds
-    (flat_map (words.standing_at l.plant l.subject) (take l.number l.nodes))
+    Adds (row_of l.plant l.states l.instances l.task) (IsKind l.plant l.states l.instances) l.fn.kinds l.kinds
+    (flat_map (words.standing_at l.plant l.task) (take l.number l.nodes))

@@ -9,5 +9,5 @@ use Rattle.row_build.proofs.visits.push_owners.Given as goal
 
 abbrev pub invariant-loop-place : goal.invariant-loop-place
 invariant-loop-place l =
-    Adds (row_of l.plant l.states l.instances l.subject) (IsKind l.plant l.states l.instances) l.fn.kinds l.kinds
+    Adds (row_of l.plant l.states l.instances l.task) (IsKind l.plant l.states l.instances) l.fn.kinds l.kinds
     (map (words.stands_once l.plant) (filter (λ context. list_any (words.is_owned l.plant context) l.nodes) (map (context_at l.plant.system) (range_with_len 0 l.place))))

@@ -10,10 +10,10 @@ use Rattle.row_build.proofs.visits.push_standing.Goals as goal
 
 pub returns : goal.returns
 returns c =
-    let plant = c.args.plant.now in let states = c.args.states.now in let instances = c.args.instances.now in let subject = c.args.subject in let nodes = c.args.nodes.now in
-    let first = flat_map (words.standing_at plant subject) nodes in
+    let plant = c.args.plant.now in let states = c.args.states.now in let instances = c.args.instances.now in let task = c.args.task in let nodes = c.args.nodes.now in
+    let first = flat_map (words.standing_at plant task) nodes in
     let second = map (words.stands_once plant) (filter (λ context. list_any (words.is_owned plant context) nodes) (map (context_at plant.system) (range_with_len 0 (context_count plant.system)))) in
-    adds_like (row_of plant states instances subject) (IsKind plant states instances) c.args.kinds.now c.push_owners.new.kinds (first ++ second) (words.standing plant states subject)
-    (standing_is plant states subject nodes c.requires.are)
-    (adds_both (row_of plant states instances subject) (IsKind plant states instances) c.args.kinds.now c.push_nodes.new.kinds c.push_owners.new.kinds first second
+    adds_like (row_of plant states instances task) (IsKind plant states instances) c.args.kinds.now c.push_owners.new.kinds (first ++ second) (words.standing plant states task)
+    (standing_is plant states task nodes c.requires.are)
+    (adds_both (row_of plant states instances task) (IsKind plant states instances) c.args.kinds.now c.push_nodes.new.kinds c.push_owners.new.kinds first second
     c.in_ok-push_nodes.ensures c.in_ok-push_owners.ensures)
