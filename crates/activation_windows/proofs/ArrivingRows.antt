@@ -26,7 +26,7 @@ use Rattle.row_build.specs.Columns.{Column, Starts, In, cost}
 use Rattle.row_build.specs.Families.{Row, arrives_apart, arrives_once, arriving, is_ever_live}
 use Rattle.activation_windows.specs.Counted.{IsDeclaredCase, Meets, MeetsArriving}
 use Rattle.activation_windows.specs.Windows.{Window, gone_on, open_window, used_by}
-use Rattle.activation_windows.proofs.Calendar.{begun_at, begun_before, in_calendar, waits, waits_arrived}
+use Rattle.osek_machine.proofs.Calendar.{begun_at, begun_before, in_calendar, waits, waits_arrived}
 use Rattle.activation_windows.proofs.Induction.{IsLater, Inducts, of_open, of_used}
 use Rattle.activation_windows.proofs.Lasting.{Lasts, lasts, since_before, since_start}
 use Rattle.activation_windows.proofs.Sums.{one, meets_by, difference_counted, sum_with}

@@ -20,7 +20,6 @@ pub mod PassingRows
 pub mod EdgesTaken
 pub mod Costing
 pub mod Lasting
-pub mod Calendar
 pub mod Taking
 pub mod ArrivingRows
 pub mod Beyond

@@ -17,7 +17,7 @@ use Rattle.shadow_runs.specs.Shadow.{node_of}
 use Rattle.row_build.specs.Columns.{Along, By, Column, Starts, Moves, Goes, Begins, Stands, takes_source}
 use Rattle.row_build.specs.Families.{is_start_by, taken}
 use Rattle.activation_windows.specs.Windows.{Window, along_of, behind, entered, going_by, gone_on, nodes_after, opened, running_after, start_by, used_by, waiting_after}
-use Rattle.activation_windows.proofs.Calendar.{in_calendar, waits}
+use Rattle.osek_machine.proofs.Calendar.{in_calendar, waits}
 use Rattle.activation_windows.proofs.Induction.{IsLater}
 use Rattle.activation_windows.proofs.Sums.{one, starts_count, moves_count, starts_counted, moves_counted, sum_counted, sum_option, sum_waiting, sum_with}
 use Rattle.activation_windows.proofs.InBlocks.{newly, run_total, waiting_sum}
